@@ -1,0 +1,11 @@
+pub mod Bits
+pub mod Causes
+pub mod Host
+pub mod MemoryFiles
+pub mod MemorySink
+pub mod Names
+pub mod Outside
+pub mod Ports
+pub mod Rules
+pub mod Transfer
+pub mod WordValue

@@ -1,0 +1,36 @@
+-- How a rule is spelled.
+use Rattle.std.specs.Prelude.{ℕ, List, codes}
+use Rattle.lz_base.specs.declared.rule.Rule.{Rule}
+use Rattle.lz_base.specs.declared.rule.Rule.TheVariants.{E1, E2, E3, E4, E5, E6, E7, E8, E9, E10, E11, E12, E13, P1, P2, P3, P4, P5, P6, P7, P8, W1, N1, N2, G1, G2, T1, C1, S1, U1}
+
+abbrev pub rule_text : Rule → List ℕ
+rule_text E1 = codes "E1"
+rule_text E2 = codes "E2"
+rule_text E3 = codes "E3"
+rule_text E4 = codes "E4"
+rule_text E5 = codes "E5"
+rule_text E6 = codes "E6"
+rule_text E7 = codes "E7"
+rule_text E8 = codes "E8"
+rule_text E9 = codes "E9"
+rule_text E10 = codes "E10"
+rule_text E11 = codes "E11"
+rule_text E12 = codes "E12"
+rule_text E13 = codes "E13"
+rule_text P1 = codes "P1"
+rule_text P2 = codes "P2"
+rule_text P3 = codes "P3"
+rule_text P4 = codes "P4"
+rule_text P5 = codes "P5"
+rule_text P6 = codes "P6"
+rule_text P7 = codes "P7"
+rule_text P8 = codes "P8"
+rule_text W1 = codes "W1"
+rule_text N1 = codes "N1"
+rule_text N2 = codes "N2"
+rule_text G1 = codes "G1"
+rule_text G2 = codes "G2"
+rule_text T1 = codes "T1"
+rule_text C1 = codes "C1"
+rule_text S1 = codes "S1"
+rule_text U1 = codes "U1"

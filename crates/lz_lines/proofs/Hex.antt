@@ -1,0 +1,163 @@
+-- What is read of a hexadecimal number.
+use Rattle.std.proofs.Common.{◌≡◌, ℕ, zero, suc, ◌+◌, ◌-◌, ◌*◌, ◌/◌, ◌%◌, ◌^◌, ◌<◌, ◌≤◌, List, [], ◌∷◌, ◌++◌, Bool, true, false, cond, Ok, Err, Result, IfOk, refl, arith, ap, sym, ◌∙◌, length}
+use Rattle.std.proofs.lemmas.Nat.{pow-add, shr-shr, shr_below, pow_pos}
+use Rattle.std.proofs.Math.Nat.{pow-le-pow_right, lt-div-mul-add, mul-le-mul_right}
+use Rattle.std.proofs.lemmas.Bool.Decides.{nat_tests}
+use Rattle.std.proofs.Common.{lt-ltb}
+use Rattle.lz_lines.specs.Fields.{field, hex, hex_digits, hex_digit}
+use Rattle.lz_lines.specs.Readers.{Gives}
+use Rattle.lz_lines.specs.Digits.{Tells, is_hex, hex_value, more_hex, is_top, hex_at}
+use Rattle.lz_lines.specs.declared.reading.Broken.{Broken}
+
+power_grows : (i j : ℕ) → i ≤ j → 2 ^ i ≤ 2 ^ j
+power_grows i j h = pow-le-pow_right (omega arith) h
+
+-- one digit more takes four bits of what is left
+pub room_step : (count value digit : ℕ) → 0 < count → count ≤ 32 → value < 2 ^ (128 - 4 * count) → digit < 16 → value * 16 + digit < 2 ^ (128 - 4 * (count - 1))
+room_step count value digit some few room small =
+    let e : 128 - 4 * (count - 1) ≡ (128 - 4 * count) + 4 = omega arith in
+    rw e (omega (arith, pow-add 2 (128 - 4 * count) 4))
+
+-- what fits the bits that are left fits a word
+pub room_fits : (count value digit : ℕ) → 0 < count → count ≤ 32 → value < 2 ^ (128 - 4 * count) → digit < 16 → value * 16 + digit < 2 ^ 128
+room_fits count value digit some few room small =
+    let most : 2 ^ (128 - 4 * (count - 1)) ≤ 2 ^ 128 = power_grows (128 - 4 * (count - 1)) 128 (omega arith) in
+    omega (arith, room_step count value digit some few room small, most)
+
+-- a first digit fits the bits that the others leave
+pub first_room : (width digit : ℕ) → 1 ≤ width → width ≤ 128 → digit < 16 → digit < 2 ^ (128 - 4 * ((width + 3) / 4 - 1))
+first_room width digit low high small =
+    let most : 2 ^ 4 ≤ 2 ^ (128 - 4 * ((width + 3) / 4 - 1)) = power_grows 4 (128 - 4 * ((width + 3) / 4 - 1)) (omega arith) in
+    omega (arith, most)
+
+-- a digit is read as itself
+digit_is : (d : ℕ) → d < 16 → (is_hex (hex_digit d) ≡ true) × (hex_value (hex_digit d) ≡ d)
+digit_is d h = grind (arith, nat_tests)
+
+digit_was : (b : ℕ) → is_hex b ≡ true → (hex_value b < 16) × (hex_digit (hex_value b) ≡ b)
+digit_was b h = grind (arith, nat_tests)
+
+-- the most significant digit stands first
+front : (k n : ℕ) → hex_digits (suc k) n ≡ hex_digit (n / 2 ^ (4 * k) % 16) ∷ hex_digits k n
+front zero n = let e : n / 2 ^ 0 % 16 ≡ n % 16 = omega arith in rw e refl
+front (suc k) n =
+    let e : n / 16 / 2 ^ (4 * k) ≡ n / 2 ^ (4 * suc k) = shr-shr n 4 (4 * k) ∙ ap (λ j. n / 2 ^ j) (omega arith) in
+    ap (λ l. l ++ hex_digit (n % 16) ∷ []) (front k (n / 16) ∙ ap (λ m. hex_digit (m % 16) ∷ hex_digits k (n / 16)) e)
+
+-- the digits that are spelled are read, behind the bits that stand before them
+more_again : (k n high : ℕ) (rest : List ℕ) → n / 2 ^ (4 * k) ≡ high → more_hex k high (hex_digits k n ++ rest) ≡ Ok (n, rest)
+more_again zero n high rest h = let e : high ≡ n = omega arith in ap (λ m. Ok (m, rest)) e
+more_again (suc k) n high rest h =
+    let top = n / 2 ^ (4 * k) in
+    let small : top % 16 < 16 = omega arith in
+    let is = digit_is (top % 16) small in
+    let tests = is.0 in
+    let reads = is.1 in
+    let over : top / 16 ≡ high = shr-shr n (4 * k) 4 ∙ ap (λ j. n / 2 ^ j) (omega arith) ∙ h in
+    let e : high * 16 + top % 16 ≡ top = omega arith in
+    ap (λ l. more_hex (suc k) high (l ++ rest)) (front k n) ∙ rw (tests, reads, e) (more_again k n top rest refl)
+
+-- the digits that are read are spelled so
+record Spells (k high n : ℕ) (bytes rest : List ℕ) : Type 0 where
+  top : n / 2 ^ (4 * k) ≡ high
+  split : bytes ≡ hex_digits k n ++ rest
+
+more_takes : (k high n : ℕ) (bytes rest : List ℕ) → more_hex k high bytes ≡ Ok (n, rest) → Spells k high n bytes rest
+more_takes zero high n bytes rest h =
+    let e : (high, bytes) ≡ (n, rest) = cc in
+    record { top = omega (arith, ap (λ (r : ℕ × List ℕ). r.0) e); split = ap (λ (r : ℕ × List ℕ). r.1) e }
+more_takes (suc k) high n [] rest h = cc
+more_takes (suc k) high n (b ∷ bs) rest h = at (more_takes k (high * 16 + hex_value b) n bs rest) (is_hex b) refl h
+  where
+    at : (more_hex k (high * 16 + hex_value b) bs ≡ Ok (n, rest) → Spells k (high * 16 + hex_value b) n bs rest)
+        → (t : Bool) → is_hex b ≡ t → cond t (more_hex k (high * 16 + hex_value b) bs) (Err (length (b ∷ bs))) ≡ Ok (n, rest) → Spells (suc k) high n (b ∷ bs) rest
+    at more false t e = cc
+    at more true t e =
+        let was = digit_was b t in
+        let small = was.0 in
+        let back = was.1 in
+        let m = more e in
+        let over : n / 2 ^ (4 * suc k) ≡ high = ap (λ j. n / 2 ^ j) (omega arith) ∙ sym (shr-shr n (4 * k) 4) ∙ ap (λ x. x / 16) m.top ∙ omega arith in
+        let low : n / 2 ^ (4 * k) % 16 ≡ hex_value b = ap (λ x. x % 16) m.top ∙ omega arith in
+        record {
+          top = over;
+          split = ap (λ l. b ∷ l) m.split ∙ ap (λ x. x ∷ hex_digits k n ++ rest) (sym back ∙ ap hex_digit (sym low)) ∙ ap (λ l. l ++ rest) (sym (front k n));
+        }
+
+-- the test of a first digit
+top_was : (width b : ℕ) → is_top width b ≡ true → (is_hex b ≡ true) × (hex_value b < 2 ^ ((width + 3) % 4 + 1))
+top_was width b h = grind (arith, nat_tests)
+
+below_from : (n j k : ℕ) → n / 2 ^ j < 2 ^ k → n < 2 ^ (k + j)
+below_from n j k h =
+    let a = lt-div-mul-add {a = n} {b = 2 ^ j} (pow_pos j) in
+    let b = mul-le-mul_right {m = n / 2 ^ j + 1} {n = 2 ^ k} (2 ^ j) (omega arith) in
+    omega (arith, a, b, pow-add 2 k j)
+
+-- the bits of the first digit, and of the others
+bits : (width : ℕ) → 1 ≤ width → 2 ^ width ≡ 2 ^ ((width + 3) % 4 + 1 + 4 * ((width + 3) / 4 - 1))
+bits width low = ap (λ w. 2 ^ w) (omega arith)
+
+digits_suc : (width n : ℕ) → 1 ≤ width → hex width n ≡ hex_digits (suc ((width + 3) / 4 - 1)) n
+digits_suc width n low = let e : (width + 3) / 4 ≡ suc ((width + 3) / 4 - 1) = omega arith in ap (λ k. hex_digits k n) e
+
+-- a number that is spelled is read
+hex_again : (width n : ℕ) (rest : List ℕ) → 1 ≤ width → n < 2 ^ width → hex_at width (hex width n ++ rest) ≡ Ok (n, rest)
+hex_again width n rest low fits =
+    let k = (width + 3) / 4 - 1 in
+    let top = n / 2 ^ (4 * k) in
+    let below : top < 2 ^ ((width + 3) % 4 + 1) = shr_below n ((width + 3) % 4 + 1) (4 * k) (rw (← (bits width low)) fits) in
+    let most : 2 ^ ((width + 3) % 4 + 1) ≤ 2 ^ 4 = power_grows ((width + 3) % 4 + 1) 4 (omega arith) in
+    let small : top < 16 = omega (arith, below, most) in
+    let same : top % 16 ≡ top = omega arith in
+    let is = digit_is top small in
+    let is_digit = is.0 in
+    let reads = is.1 in
+    let tests : is_top width (hex_digit top) ≡ true = top_is width top is_digit reads below in
+    ap (λ l. hex_at width (l ++ rest)) (digits_suc width n low ∙ front k n ∙ ap (λ d. hex_digit d ∷ hex_digits k n) same) ∙ rw (tests, reads) (more_again k n top rest refl)
+  where
+    top_is : (width d : ℕ) → is_hex (hex_digit d) ≡ true → hex_value (hex_digit d) ≡ d → d < 2 ^ ((width + 3) % 4 + 1) → is_top width (hex_digit d) ≡ true
+    top_is width d a b c = rw (a, b) (lt-ltb d (2 ^ ((width + 3) % 4 + 1)) c)
+
+-- what is read is spelled so
+record Takes (width n : ℕ) (bytes rest : List ℕ) : Type 0 where
+  fits : n < 2 ^ width
+  split : bytes ≡ hex width n ++ rest
+
+hex_takes : (width n : ℕ) (bytes rest : List ℕ) → 1 ≤ width → hex_at width bytes ≡ Ok (n, rest) → Takes width n bytes rest
+hex_takes width n [] rest low h = cc
+hex_takes width n (b ∷ bs) rest low h = at (is_top width b) refl h
+  where
+    at : (t : Bool) → is_top width b ≡ t → cond t (more_hex ((width + 3) / 4 - 1) (hex_value b) bs) (Err (length (b ∷ bs))) ≡ Ok (n, rest) → Takes width n (b ∷ bs) rest
+    at false t e = cc
+    at true t e =
+        let k = (width + 3) / 4 - 1 in
+        let was = top_was width b t in
+        let back = (digit_was b was.0).1 in
+        let small = (digit_was b was.0).0 in
+        let m = more_takes k (hex_value b) n bs rest e in
+        let low_bits : n / 2 ^ (4 * k) % 16 ≡ hex_value b = ap (λ x. x % 16) m.top ∙ omega arith in
+        record {
+          fits = rw (bits width low) (below_from n (4 * k) ((width + 3) % 4 + 1) (omega (arith, m.top, was.1)));
+          split = ap (λ l. b ∷ l) m.split ∙ ap (λ x. x ∷ hex_digits k n ++ rest) (sym back ∙ ap hex_digit (sym low_bits)) ∙ ap (λ l. l ++ rest) (sym (front k n) ∙ sym (digits_suc width n low));
+        }
+
+-- the same of a function's answer, behind the blank
+pub hex_found : {X : Type 0} (value : X → ℕ) (after : X → List ℕ) (result : Result X Broken) (width : ℕ) (whole bytes : List ℕ) → 1 ≤ width → whole ≡ 32 ∷ bytes
+    → Tells (λ x. (value x, after x)) result (hex_at width bytes) → IfOk result (λ x. (value x < 2 ^ width) × (whole ≡ field (hex width (value x)) ++ after x))
+hex_found value after (Ok x) width whole bytes low blank h =
+    let t = hex_takes width (value x) bytes (after x) low h in
+    (t.fits, blank ∙ ap (λ l. 32 ∷ l) t.split)
+hex_found value after (Err e) width whole bytes low blank h = tt
+
+pub hex_only : {X : Type 0} (value : X → ℕ) (after : X → List ℕ) (result : Result X Broken) (width n : ℕ) (whole bytes rest : List ℕ) → 1 ≤ width → whole ≡ 32 ∷ bytes
+    → Tells (λ x. (value x, after x)) result (hex_at width bytes) → n < 2 ^ width → whole ≡ field (hex width n) ++ rest → Gives value after result n rest
+hex_only value after (Ok x) width n whole bytes rest low blank h fits is =
+    let same : bytes ≡ hex width n ++ rest = cc in
+    let again = hex_again width n rest low fits in
+    let e : (value x, after x) ≡ (n, rest) = cc in
+    (ap (λ (r : ℕ × List ℕ). r.0) e, ap (λ (r : ℕ × List ℕ). r.1) e)
+hex_only value after (Err e) width n whole bytes rest low blank h fits is =
+    let same : bytes ≡ hex width n ++ rest = cc in
+    let again = hex_again width n rest low fits in
+    cc

@@ -1,0 +1,4 @@
+pub mod Lines
+pub mod Decimal
+pub mod Hex
+pub mod NameEnds

@@ -1,0 +1,5 @@
+pub mod Fields
+pub mod Readers
+pub mod Digits
+pub mod Choice
+pub mod Unread

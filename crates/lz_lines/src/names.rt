@@ -1,0 +1,56 @@
+ghost use Rattle.std.specs.Prelude.{◌≡◌, true, ◌++◌, ◌≤◌, List, ℕ, IsTrue, length, take, drop, IfOk, IfErr};
+ghost use Rattle.std.specs.List.{list_all};
+ghost use Rattle.lz_base.specs.Names.{is_name, is_name_byte, is_name_start};
+ghost use Rattle.lz_lines.specs.Fields.{field};
+ghost use Rattle.lz_lines.specs.Readers.{Gives, BeginsWithout, begins_name};
+
+use crate::reading::{Broken, read_word};
+
+/// Takes a blank and a name, which ends before the first byte that no name has, and gives what is left after it. The
+/// fault is at the blank or at the first byte of the name.
+pub fn read_name<'a>(bytes: &'a [u8]) -> Result<(&'a [u8], &'a [u8]), Broken>
+    ensures found { IfOk result (λ r. IsTrue (is_name r.0.now) × (bytes.now ≡ field r.0.now ++ r.1.now)) }
+    ensures only { (name rest : List ℕ) → IsTrue (is_name name) → BeginsWithout is_name_byte rest → bytes.now ≡ field name ++ rest → Gives (λ r. r.0.now) (λ r. r.1.now) result name rest }
+    ensures left { IfErr result (λ e. e.left ≤ length bytes.now) }
+{
+    let rest = read_word(bytes, b" ")?;
+    if !begins_name(rest) {
+        return Err(Broken { left: rest.len() });
+    }
+    Ok(rest.split_at(name_length(rest)))
+}
+
+fn begins_name(bytes: &[u8]) -> bool
+    ensures { result ≡ begins_name bytes.now }
+{
+    match bytes.first() {
+        Some(byte) => is_name_start(*byte),
+        None => false,
+    }
+}
+
+// How many bytes of a name stand at the front.
+fn name_length(bytes: &[u8]) -> usize
+    ensures within { result ≤ length bytes.now }
+    ensures name { list_all is_name_byte (take result bytes.now) ≡ true }
+    ensures end { BeginsWithout is_name_byte (drop result bytes.now) }
+{
+    for (i, byte) in bytes.iter().enumerate() {
+        if !is_name_byte(*byte) {
+            return i;
+        }
+    }
+    bytes.len()
+}
+
+fn is_name_start(byte: u8) -> bool
+    ensures { result ≡ is_name_start byte }
+{
+    (b'a' <= byte && byte <= b'z') || (b'A' <= byte && byte <= b'Z') || byte == b'_'
+}
+
+fn is_name_byte(byte: u8) -> bool
+    ensures { result ≡ is_name_byte byte }
+{
+    is_name_start(byte) || (b'0' <= byte && byte <= b'9') || byte == b'$'
+}

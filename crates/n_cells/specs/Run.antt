@@ -1,0 +1,53 @@
+-- What a netlist does in a cycle.
+use Rattle.std.specs.Prelude.{◌≡◌, ℕ, ◌+◌, ◌*◌, ◌/◌, ◌%◌, ◌^◌, List, [], ◌∷◌, ◌++◌, length, map, take, ⊤, Bool, true, false, ◌==◌, ◌||◌, ◌&&◌, if◌then◌else◌, slice_index_or}
+use Rattle.std.specs.Bool.{xor}
+use Rattle.lz_base.specs.Bits.{word_of, words_bits}
+use Rattle.lz_base.specs.WordValue.{WordValue}
+use Rattle.n_cells.specs.declared.netlist.Stored.{Stored}
+use Rattle.n_cells.specs.declared.netlist.Stored.TheVariants.{Lut, Carry}
+use Rattle.n_cells.specs.Netlist.{NetlistValue, net_count, first_net}
+
+-- the value of a net
+abbrev pub value_at : List Bool → ℕ → Bool
+value_at values net = slice_index_or values net false
+
+-- the number that the leaves' bits make, the first leaf's bit lowest
+abbrev pub index_of : List Bool → List ℕ → ℕ
+index_of values [] = 0
+index_of values (leaf ∷ leaves) = (if value_at values leaf then 1 else 0) + 2 * index_of values leaves
+
+-- bit i of a table
+abbrev pub table_bit : ℕ → ℕ → Bool
+table_bit table i = (table / 2 ^ i % 2) == 1
+
+abbrev pub majority : Bool → Bool → Bool → Bool
+majority a b c = (a && b) || ((a && c) || (b && c))
+
+-- Each cell's equation holds, where the first cell's first net has this number: a look-up table shows the bit that
+-- its leaves choose, a carry cell the exclusive or, and on its second net the majority, of its three nets.
+abbrev pub CellsHold : List Bool → ℕ → List Stored → Type 0
+CellsHold values next [] = ⊤
+CellsHold values next (Lut leaves table ∷ cells) = (value_at values next ≡ table_bit table (index_of values leaves)) × CellsHold values (next + 1) cells
+CellsHold values next (Carry a b c ∷ cells) =
+    (value_at values next ≡ xor (value_at values a) (xor (value_at values b) (value_at values c)))
+    × (value_at values (next + 1) ≡ majority (value_at values a) (value_at values b) (value_at values c))
+    × CellsHold values (next + 2) cells
+
+-- The values of all nets in a cycle, for the words at the inputs and the bits in the flip-flops: net 0 is 0, net 1 is
+-- 1, then come the bits of the inputs, the flip-flops, and the nets of the cells, which satisfy every equation.
+pub record IsValuation (n : NetlistValue) (inputs : List WordValue) (state values : List Bool) : Type 0 where
+  pub count : length values ≡ net_count n
+  pub front : take (first_net n.inputs n.flops) values ≡ false ∷ true ∷ words_bits inputs ++ state
+  pub cells : CellsHold values (first_net n.inputs n.flops) n.cells
+
+-- the words at the outputs
+abbrev pub shown : NetlistValue → List Bool → List WordValue
+shown n values = map (λ nets. word_of (map (value_at values) nets)) n.nets
+
+-- what the flip-flops take at the edge
+abbrev pub next_state : NetlistValue → List Bool → List Bool
+next_state n values = map (λ f. value_at values f.net) n.flops
+
+-- what the flip-flops hold at first
+abbrev pub first_state : NetlistValue → List Bool
+first_state n = map (λ f. f.first) n.flops

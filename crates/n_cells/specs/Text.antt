@@ -1,0 +1,44 @@
+-- The one spelling of a netlist.
+use Rattle.std.specs.Prelude.{ℕ, ◌^◌, List, [], ◌∷◌, ◌++◌, length, flat_map, codes, Option, None, Some, Bool, true, false}
+use Rattle.lz_base.specs.declared.name.Port.{Port}
+use Rattle.lz_lines.specs.Fields.{field, number, hex}
+use Rattle.n_cells.specs.declared.netlist.Flop.{Flop}
+use Rattle.n_cells.specs.declared.netlist.Stored.{Stored}
+use Rattle.n_cells.specs.declared.netlist.Stored.TheVariants.{Lut, Carry}
+use Rattle.n_cells.specs.Netlist.{NetlistValue}
+
+-- clock NAME, where there is a clock
+abbrev pub clock_line : Option (List ℕ) → List ℕ
+clock_line None = []
+clock_line (Some name) = codes "clock" ++ field name ++ 10 ∷ []
+
+-- input NAME WIDTH
+abbrev pub input_line : Port → List ℕ
+input_line p = codes "input" ++ field p.name ++ number p.width ++ 10 ∷ []
+
+abbrev pub bit_digit : Bool → List ℕ
+bit_digit false = codes " 0"
+bit_digit true = codes " 1"
+
+-- ff BIT NET
+abbrev pub flop_line : Flop → List ℕ
+flop_line f = codes "ff" ++ bit_digit f.first ++ number f.net ++ 10 ∷ []
+
+-- lut K NET .. TABLE, or carry NET NET NET
+abbrev pub cell_line : Stored → List ℕ
+cell_line (Lut leaves table) = codes "lut" ++ number (length leaves) ++ flat_map number leaves ++ field (hex (2 ^ length leaves) table) ++ 10 ∷ []
+cell_line (Carry a b c) = codes "carry" ++ number a ++ number b ++ number c ++ 10 ∷ []
+
+-- output NAME NET .., bit 0 first
+abbrev pub output_line : Port → List ℕ → List ℕ
+output_line p nets = codes "output" ++ field p.name ++ flat_map number nets ++ 10 ∷ []
+
+abbrev pub output_lines : List Port → List (List ℕ) → List ℕ
+output_lines [] nets = []
+output_lines (p ∷ ps) [] = []
+output_lines (p ∷ ps) (n ∷ ns) = output_line p n ++ output_lines ps ns
+
+-- the whole text
+abbrev pub text : NetlistValue → List ℕ
+text n = codes "lutnet 1" ++ 10 ∷ codes "model" ++ field n.name ++ 10 ∷ clock_line n.clock ++ flat_map input_line n.inputs ++ flat_map flop_line n.flops
+    ++ flat_map cell_line n.cells ++ output_lines n.outputs n.nets ++ codes "end" ++ 10 ∷ []

@@ -1,0 +1,20 @@
+//! Netlists of look-up tables, carry cells and flip-flops.
+//!
+//! A `Netlist` is well formed by its type: its lines are those of the netlist text, and every net and name refers
+//! rightly. A `NetlistMaker` makes one line by line. What a netlist is stands in `specs/Netlist.antt`, its one text in
+//! `specs/Text.antt`, and what it does in a cycle in `specs/Run.antt`. The crate stands on `lz_base` and, for the
+//! spelling of fields, on `lz_lines`.
+//!
+//! Promised: each reader shows its part of the netlist, each call of the maker appends exactly its line or, without
+//! memory, changes nothing, and a well-formed netlist has exactly one valuation in each cycle.
+#![tactic(auto)]
+
+mod law;
+mod leaves;
+mod netlist;
+
+pub use law::{net_after_net, one_valuation};
+pub use netlist::{Cell, Flop, Netlist, NetlistMaker};
+
+#[cfg(test)]
+mod tests;

@@ -1,0 +1,141 @@
+ghost use Rattle.std.specs.Prelude.{◌≡◌, ◌++◌, flat_map, OnOk, IfOk};
+ghost use Rattle.std.specs.Option.{option_copied};
+ghost use Rattle.lz_lines.specs.Fields.{number};
+ghost use Rattle.n_cells.specs.Cell.{stored_of};
+ghost use Rattle.n_cells.specs.Netlist.{HasShape};
+ghost use Rattle.n_cells.specs.Text.{input_line, flop_line, cell_line, output_line, output_lines, clock_line, text};
+
+use lz_base::{Name, Num, OutOfMemory, Port};
+use lz_lines::{push_field, push_hex, push_line_end, push_number};
+use n_cells::{Cell, Flop, Netlist};
+use std::alloc::Global;
+
+fn push_numbers(alloc: Global, out: &mut Vec<u8>, ns: &[Num]) -> Result<(), OutOfMemory>
+    ensures { OnOk result (out.new.items ≡ out.old.items ++ flat_map number ns.now) }
+{
+    for n in ns {
+        push_number(alloc, out, *n)?;
+    }
+    Ok(())
+}
+
+fn push_input(alloc: Global, out: &mut Vec<u8>, port: &Port) -> Result<(), OutOfMemory>
+    ensures { OnOk result (out.new.items ≡ out.old.items ++ input_line port.now) }
+{
+    out.extend_from_slice(b"input")?;
+    push_field(out, port.name.bytes())?;
+    push_number(alloc, out, u128::from(port.width))?;
+    push_line_end(out)
+}
+
+fn push_inputs(alloc: Global, out: &mut Vec<u8>, ports: &[Port]) -> Result<(), OutOfMemory>
+    ensures { OnOk result (out.new.items ≡ out.old.items ++ flat_map input_line ports.now) }
+{
+    for port in ports {
+        push_input(alloc, out, port)?;
+    }
+    Ok(())
+}
+
+fn push_flop(alloc: Global, out: &mut Vec<u8>, flop: &Flop) -> Result<(), OutOfMemory>
+    ensures { OnOk result (out.new.items ≡ out.old.items ++ flop_line flop.now) }
+{
+    out.extend_from_slice(b"ff")?;
+    out.extend_from_slice(if flop.first { b" 1" } else { b" 0" })?;
+    push_number(alloc, out, flop.net)?;
+    push_line_end(out)
+}
+
+fn push_flops(alloc: Global, out: &mut Vec<u8>, flops: &[Flop]) -> Result<(), OutOfMemory>
+    ensures { OnOk result (out.new.items ≡ out.old.items ++ flat_map flop_line flops.now) }
+{
+    for flop in flops {
+        push_flop(alloc, out, flop)?;
+    }
+    Ok(())
+}
+
+fn push_cell(alloc: Global, out: &mut Vec<u8>, cell: Cell<'_>) -> Result<(), OutOfMemory>
+    requires { HasShape (stored_of cell) }
+    ensures { OnOk result (out.new.items ≡ out.old.items ++ cell_line (stored_of cell.entry)) }
+{
+    match cell {
+        Cell::Lut { leaves, table } => {
+            out.extend_from_slice(b"lut")?;
+            push_number(alloc, out, leaves.len() as u128)?;
+            push_numbers(alloc, out, leaves)?;
+            push_hex(out, 1u32 << leaves.len(), u128::from(table))?;
+            push_line_end(out)
+        }
+        Cell::Carry(a, b, c) => {
+            out.extend_from_slice(b"carry")?;
+            push_number(alloc, out, a)?;
+            push_number(alloc, out, b)?;
+            push_number(alloc, out, c)?;
+            push_line_end(out)
+        }
+    }
+}
+
+fn push_cells(alloc: Global, out: &mut Vec<u8>, netlist: &Netlist) -> Result<(), OutOfMemory>
+    ensures { OnOk result (out.new.items ≡ out.old.items ++ flat_map cell_line netlist.now.cells) }
+{
+    for i in 0..netlist.cell_count() {
+        push_cell(alloc, out, netlist.cell(i))?;
+    }
+    Ok(())
+}
+
+fn push_output(
+    alloc: Global,
+    out: &mut Vec<u8>,
+    port: &Port,
+    nets: &[Num],
+) -> Result<(), OutOfMemory>
+    ensures { OnOk result (out.new.items ≡ out.old.items ++ output_line port.now nets.now) }
+{
+    out.extend_from_slice(b"output")?;
+    push_field(out, port.name.bytes())?;
+    push_numbers(alloc, out, nets)?;
+    push_line_end(out)
+}
+
+fn push_outputs(alloc: Global, out: &mut Vec<u8>, netlist: &Netlist) -> Result<(), OutOfMemory>
+    ensures { OnOk result (out.new.items ≡ out.old.items ++ output_lines netlist.now.outputs netlist.now.nets) }
+{
+    let outputs = netlist.outputs();
+    for i in 0..outputs.len() {
+        push_output(alloc, out, &outputs[i], netlist.output_nets(i))?;
+    }
+    Ok(())
+}
+
+fn push_clock(out: &mut Vec<u8>, clock: Option<&Name>) -> Result<(), OutOfMemory>
+    ensures { OnOk result (out.new.items ≡ out.old.items ++ clock_line (option_copied clock.entry)) }
+{
+    match clock {
+        Some(name) => {
+            out.extend_from_slice(b"clock")?;
+            push_field(out, name.bytes())?;
+            push_line_end(out)
+        }
+        None => Ok(()),
+    }
+}
+
+/// The one text of a netlist.
+pub fn print(alloc: Global, netlist: &Netlist) -> Result<Vec<u8>, OutOfMemory>
+    ensures { IfOk result (λ v. v.items ≡ text netlist.now) }
+{
+    let mut out = Vec::new(alloc);
+    out.extend_from_slice(b"lutnet 1\nmodel")?;
+    push_field(&mut out, netlist.name().bytes())?;
+    push_line_end(&mut out)?;
+    push_clock(&mut out, netlist.clock())?;
+    push_inputs(alloc, &mut out, netlist.inputs())?;
+    push_flops(alloc, &mut out, netlist.flops())?;
+    push_cells(alloc, &mut out, netlist)?;
+    push_outputs(alloc, &mut out, netlist)?;
+    out.extend_from_slice(b"end\n")?;
+    Ok(out)
+}

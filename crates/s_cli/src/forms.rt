@@ -1,0 +1,6 @@
+/// A form of the command line.
+#[derive(Clone, Copy, Debug, PartialEq, Eq)]
+pub enum Command {
+    /// `synth FILE`
+    Synth,
+}

@@ -1,0 +1,19 @@
+//! The top call: what the words ask, done on files and sinks that are handed in.
+//!
+//! It stands on `s_flow`, which makes the netlist, on `n_text`, which prints it, and on the traits of the outside of
+//! `lz_base`. `run` promises for each form of words when each status comes, what was written, and which line went to
+//! the errors.
+#![tactic(auto)]
+
+mod forms;
+mod reporting;
+mod running;
+mod status;
+#[cfg(test)]
+mod tests;
+mod words;
+
+pub use forms::Command;
+pub use running::run;
+pub use status::Status;
+pub use words::command;

@@ -1,0 +1,38 @@
+ghost use Rattle.std.specs.Prelude.{◌≡◌};
+
+use lz_base::Fault;
+
+/// What a run ends with.
+#[derive(Clone, Copy, Debug, PartialEq, Eq)]
+pub enum Status {
+    /// The whole output was written.
+    Ok,
+    /// A file breaks this rule at this byte.
+    Refused(Fault),
+    /// The words are of no form.
+    Usage,
+    /// A call on the files failed.
+    ReadFault,
+    /// A call on the output failed.
+    WriteFault,
+    /// Memory was wanting.
+    OutOfMemory,
+}
+
+impl Status {
+    ghost use Rattle.s_cli.specs.Status.{status_code};
+
+    /// The number with which the program ends.
+    pub fn code(&self) -> u8
+        ensures { result ≡ status_code self.now }
+    {
+        match self {
+            Status::Ok => 0,
+            Status::Refused(_) => 1,
+            Status::Usage => 2,
+            Status::ReadFault => 3,
+            Status::WriteFault => 4,
+            Status::OutOfMemory => 5,
+        }
+    }
+}

@@ -1,0 +1,6 @@
+pub mod Names
+pub mod Tables
+pub mod Schedules
+pub mod Follow
+pub mod Lines
+pub mod NoneSmall

@@ -1,0 +1,3 @@
+pub mod Realises
+pub mod Made
+pub mod Front

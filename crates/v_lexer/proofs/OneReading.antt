@@ -1,0 +1,132 @@
+-- The pieces of a text are determined.
+use Rattle.std.proofs.Common.{◌≡◌, ◌≢◌, ℕ, List, [], ◌∷◌, ◌++◌, inl, inr, refl, sym, ap, subst, ◌∙◌, arith, length, append_assoc, append-nil}
+use Rattle.std.proofs.lemmas.List.{append_cancel_left}
+use Rattle.v_syntax.specs.declared.token.Lexeme.{Lexeme}
+use Rattle.v_syntax.specs.declared.token.Lexeme.TheVariants as l
+use Rattle.v_syntax.specs.declared.token.Keyword.{Keyword}
+use Rattle.v_syntax.specs.declared.token.Mark.{Mark}
+use Rattle.v_syntax.specs.declared.token.Cast.{Cast}
+use Rattle.v_syntax.specs.declared.token.Cast.TheVariants as c
+use Rattle.v_syntax.specs.declared.token.Token.{Token}
+use Rattle.v_syntax.specs.Tokens.{keyword_spelling, mark_spelling, cast_spelling, unused_words, IsOneOf, spelling, HasForm, Piece, piece_text, text_of, IsPiece, IsSplit, tokens_from, Begins, Lexes, BreaksAt}
+use Rattle.v_syntax.specs.Tokens.Piece.{White, Item}
+use Rattle.lz_base.specs.Names.{IsNew}
+use Rattle.v_lexer.specs.Scan.{keyword_in, keywords, mark_in, marks}
+use Rattle.v_lexer.proofs.FirstBytes.{kind_of, lexeme_kind, piece_kind, piece_begins, piece_has_bytes}
+use Rattle.v_lexer.proofs.WordForms.{keyword_found, unused_no_keyword}
+use Rattle.v_lexer.proofs.MarkForms.{mark_found}
+
+new_is_none : (words : List (List ℕ)) (word : List ℕ) → IsNew word words → IsOneOf word words → ⊥
+new_is_none [] word new is = is
+new_is_none (other ∷ words) word new (inl same) = new.0 same
+new_is_none (other ∷ words) word new (inr is) = new_is_none words word new.1 is
+
+keyword_same : (a b : Keyword) → keyword_spelling a ≡ keyword_spelling b → a ≡ b
+keyword_same a b is =
+    let one = keyword_found a in
+    let two = keyword_found b in
+    let e : keyword_in keywords (keyword_spelling a) ≡ keyword_in keywords (keyword_spelling b) = ap (keyword_in keywords) is in
+    cc
+
+mark_same : (a b : Mark) → mark_spelling a ≡ mark_spelling b → a ≡ b
+mark_same a b is =
+    let one = mark_found a in
+    let two = mark_found b in
+    let e : mark_in marks (mark_spelling a) ≡ mark_in marks (mark_spelling b) = ap (mark_in marks) is in
+    let pair : (a, length (mark_spelling a)) ≡ (b, length (mark_spelling b)) = cc in
+    ap (λ (p : Mark × ℕ). p.0) pair
+
+same_front : (a b r s : List ℕ) → a ++ r ≡ b ++ s → length a ≡ length b → a ≡ b
+same_front [] [] r s is long = refl
+same_front [] (y ∷ b) r s is long = absurd (omega arith)
+same_front (x ∷ a) [] r s is long = absurd (omega arith)
+same_front (x ∷ a) (y ∷ b) r s is long =
+    let head : x ≡ y = cc in
+    let tail : a ≡ b = same_front a b r s (cc) (omega arith) in
+    cc
+
+cast_same : (a b : Cast) → cast_spelling a ≡ cast_spelling b → a ≡ b
+unfolding cast_spelling
+cast_same c.Signed c.Signed is = refl
+cast_same c.Signed c.Unsigned is = absurd (cc)
+cast_same c.Unsigned c.Signed is = absurd (cc)
+cast_same c.Unsigned c.Unsigned is = refl
+
+-- two tokens of the same bytes are equal
+same_lexeme : (a b : Lexeme) → HasForm a → HasForm b → spelling a ≡ spelling b → lexeme_kind a ≡ lexeme_kind b → a ≡ b
+same_lexeme (l.Identifier a) (l.Identifier b) f g is kinds = ap l.Identifier is
+same_lexeme (l.Identifier a) (l.Keyword b) f g is kinds = absurd (f.1 b is)
+same_lexeme (l.Identifier a) (l.Reserved b) f g is kinds = absurd (new_is_none unused_words a f.2 (subst (λ (w : List ℕ). IsOneOf w unused_words) (sym is) g))
+same_lexeme (l.Identifier a) _ f g is kinds = absurd (cc)
+same_lexeme (l.Keyword a) (l.Identifier b) f g is kinds = absurd (g.1 a (sym is))
+same_lexeme (l.Keyword a) (l.Keyword b) f g is kinds = ap l.Keyword (keyword_same a b is)
+same_lexeme (l.Keyword a) (l.Reserved b) f g is kinds = absurd (unused_no_keyword b g a (sym is))
+same_lexeme (l.Keyword a) _ f g is kinds = absurd (cc)
+same_lexeme (l.Reserved a) (l.Identifier b) f g is kinds = absurd (new_is_none unused_words b g.2 (subst (λ (w : List ℕ). IsOneOf w unused_words) is f))
+same_lexeme (l.Reserved a) (l.Keyword b) f g is kinds = absurd (unused_no_keyword a f b is)
+same_lexeme (l.Reserved a) (l.Reserved b) f g is kinds = ap l.Reserved is
+same_lexeme (l.Reserved a) _ f g is kinds = absurd (cc)
+same_lexeme (l.Cast a) (l.Cast b) f g is kinds = ap l.Cast (cast_same a b is)
+same_lexeme (l.Cast a) _ f g is kinds = absurd (cc)
+same_lexeme (l.Decimal a) (l.Decimal b) f g is kinds = ap l.Decimal is
+same_lexeme (l.Decimal a) _ f g is kinds = absurd (cc)
+same_lexeme (l.Based a) (l.Based b) f g is kinds = ap l.Based is
+same_lexeme (l.Based a) _ f g is kinds = absurd (cc)
+same_lexeme (l.Mark a) (l.Mark b) f g is kinds = ap l.Mark (mark_same a b is)
+same_lexeme (l.Mark a) _ f g is kinds = absurd (cc)
+
+not_white : (lexeme : Lexeme) → lexeme_kind lexeme ≢ 5
+not_white (l.Identifier name) = λ e. cc
+not_white (l.Keyword word) = λ e. cc
+not_white (l.Reserved word) = λ e. cc
+not_white (l.Cast sign) = λ e. cc
+not_white (l.Decimal bytes) = λ e. cc
+not_white (l.Based bytes) = λ e. cc
+not_white (l.Mark mark) = λ e. cc
+
+-- two pieces that begin one text are equal
+same_piece : (p q : Piece) (r s : List ℕ) → piece_text p ++ r ≡ piece_text q ++ s → IsPiece p r → IsPiece q s → piece_kind p ≡ piece_kind q → p ≡ q
+same_piece (White a) (White b) r s is f g kinds = let head : a ≡ b = cc in ap White head
+same_piece (White a) (Item b) r s is f g kinds = absurd (not_white b (sym kinds))
+same_piece (Item a) (White b) r s is f g kinds = absurd (not_white a kinds)
+same_piece (Item a) (Item b) r s is f g kinds =
+    let up = f.1 b s g.0 is in
+    let down = g.1 a r f.0 (sym is) in
+    ap Item (same_lexeme a b f.0 g.0 (same_front (spelling a) (spelling b) r s is (omega arith)) kinds)
+
+-- no piece begins here
+abbrev Stuck : List ℕ → Type 0
+Stuck bytes = (piece : Piece) (more : List ℕ) → Begins bytes more piece → ⊥
+
+stuck_end : Stuck []
+stuck_end piece more begins = piece_has_bytes piece (sym (piece_begins piece more begins.one) ∙ ap kind_of (sym begins.text))
+
+-- two splits of one text that both go as far as they can are equal
+same_split : (ps qs : List Piece) (r s : List ℕ) → text_of ps ++ r ≡ text_of qs ++ s → IsSplit ps r → IsSplit qs s → Stuck r → Stuck s → (ps ≡ qs) × (r ≡ s)
+same_split [] [] r s is f g no_r no_s = (refl, is)
+same_split [] (q ∷ qs) r s is f g no_r no_s = absurd (no_r q (text_of qs ++ s) (record { text = is ∙ append_assoc (piece_text q) (text_of qs) s; one = g.0 }))
+same_split (p ∷ ps) [] r s is f g no_r no_s = absurd (no_s p (text_of ps ++ r) (record { text = sym is ∙ append_assoc (piece_text p) (text_of ps) r; one = f.0 }))
+same_split (p ∷ ps) (q ∷ qs) r s is f g no_r no_s =
+    let whole : piece_text p ++ (text_of ps ++ r) ≡ piece_text q ++ (text_of qs ++ s)
+    = sym (append_assoc (piece_text p) (text_of ps) r) ∙ is ∙ append_assoc (piece_text q) (text_of qs) s in
+    let kinds : piece_kind p ≡ piece_kind q = sym (piece_begins p (text_of ps ++ r) f.0) ∙ ap kind_of whole ∙ piece_begins q (text_of qs ++ s) g.0 in
+    let first : p ≡ q = same_piece p q (text_of ps ++ r) (text_of qs ++ s) whole f.0 g.0 kinds in
+    let rest : text_of ps ++ r ≡ text_of qs ++ s = append_cancel_left (piece_text p) _ _ (whole ∙ ap (λ (x : Piece). piece_text x ++ (text_of qs ++ s)) (sym first)) in
+    let more = same_split ps qs r s rest f.1 g.1 no_r no_s in
+    (cc, more.1)
+
+pub one_list : (bytes : List ℕ) (a b : List Token) → Lexes bytes a → Lexes bytes b → a ≡ b
+one_list bytes a b f g =
+    let same = same_split f.pieces g.pieces [] [] (ap (λ l. l ++ []) (sym f.text ∙ g.text)) f.split g.split stuck_end stuck_end in
+    f.listed ∙ ap (tokens_from 0) same.0 ∙ sym g.listed
+
+pub one_place : (bytes : List ℕ) (a b : ℕ) → BreaksAt bytes a → BreaksAt bytes b → a ≡ b
+one_place bytes a b f g =
+    let same = same_split f.pieces g.pieces f.rest g.rest (sym f.text ∙ g.text) f.split g.split f.breaks g.breaks in
+    f.place ∙ ap (λ ps. length (text_of ps)) same.0 ∙ sym g.place
+
+pub not_both : (bytes : List ℕ) (tokens : List Token) (at : ℕ) → Lexes bytes tokens → BreaksAt bytes at → ⊥
+not_both bytes tokens at f g =
+    let whole : text_of f.pieces ++ [] ≡ text_of g.pieces ++ g.rest = append-nil (text_of f.pieces) ∙ sym f.text ∙ g.text in
+    let same = same_split f.pieces g.pieces [] g.rest whole f.split g.split stuck_end g.breaks in
+    g.goes_on (sym same.1)

@@ -1,11 +1,13 @@
 -- What is read of a decimal number.
-use Rattle.std.proofs.Common.{◌≡◌, ℕ, ◌+◌, ◌-◌, ◌*◌, ◌/◌, ◌%◌, ◌^◌, ◌<◌, ◌≤◌, List, [], ◌∷◌, ◌++◌, Bool, true, false, cond, Ok, Err, Result, IfOk, refl, arith, ap, sym, ◌∙◌, append_assoc, length}
+use Rattle.std.proofs.Common.{◌≡◌, ℕ, ◌+◌, ◌-◌, ◌*◌, ◌/◌, ◌%◌, ◌^◌, ◌<◌, ◌≤◌, List, [], ◌∷◌, ◌++◌, Bool, true, false, cond, Ok, Err, Result, IfOk, IfErr, subst, append-nil, refl, arith, ap, sym, ◌∙◌, append_assoc, length}
 use Rattle.std.specs.Fmt.{decimal}
 use Rattle.std.proofs.lemmas.Fmt.{decimal_by_steps_wide, decimal_step_wide, decimal_digit}
 use Rattle.std.proofs.lemmas.Bool.Decides.{nat_tests}
 use Rattle.lz_lines.specs.Fields.{number}
 use Rattle.lz_lines.specs.Readers.{is_digit, BeginsWithout, Gives}
 use Rattle.lz_lines.specs.Digits.{Tells, goes_on, more_digits, is_first, decimal_at}
+use Rattle.lz_lines.specs.Places.{EndsNumber, IsNumber, Leave}
+use Rattle.lz_lines.proofs.Places.{leave_behind, leave_now}
 use Rattle.lz_lines.specs.declared.reading.Broken.{Broken}
 
 -- the test of a first digit, both ways
@@ -125,3 +127,63 @@ number_only value after (Err e) low high n whole bytes rest fits one blank h lo 
     let same : bytes ≡ decimal n ++ rest = cc in
     let again = decimal_again low high n rest fits one lo hi ends in
     cc
+
+-- a digit that the number could take is taken
+on_of : (high n b : ℕ) → is_digit b ≡ true → 0 < n → n * 10 + (b - 48) ≤ high → goes_on high n b ≡ true
+on_of high n b h some hi = grind (arith, nat_tests)
+
+more_ends : (high n : ℕ) (bs : List ℕ) → EndsNumber high (more_digits high n bs).0 (more_digits high n bs).1
+more_ends high n [] = tt
+more_ends high n (b ∷ bs) = at (more_ends high (n * 10 + (b - 48)) bs) (goes_on high n b) refl
+  where
+    at : EndsNumber high (more_digits high (n * 10 + (b - 48)) bs).0 (more_digits high (n * 10 + (b - 48)) bs).1
+        → (t : Bool) → goes_on high n b ≡ t → EndsNumber high (cond t (more_digits high (n * 10 + (b - 48)) bs) (n, b ∷ bs)).0 (cond t (more_digits high (n * 10 + (b - 48)) bs) (n, b ∷ bs)).1
+    at more true e = more
+    at more false e = λ digit some hi. let on : goes_on high n b ≡ true = on_of high n b digit some hi in cc
+
+decimal_ends : (low high : ℕ) (bytes : List ℕ) (n : ℕ) (rest : List ℕ) → decimal_at low high bytes ≡ Ok (n, rest) → EndsNumber high n rest
+decimal_ends low high [] n rest e = cc
+decimal_ends low high (b ∷ bs) n rest e = at (is_first low high b) e
+  where
+    at : (t : Bool) → cond t (Ok (more_digits high (b - 48) bs)) (Err (length (b ∷ bs))) ≡ Ok (n, rest) → EndsNumber high n rest
+    at false e = cc
+    at true e =
+        let is : more_digits high (b - 48) bs ≡ (n, rest) = cc in
+        subst (λ (r : ℕ × List ℕ). EndsNumber high r.0 r.1) is (more_ends high (b - 48) bs)
+
+-- the same of a function's answer
+pub number_end : {X : Type 0} (value : X → ℕ) (after : X → List ℕ) (result : Result X Broken) (low high : ℕ) (bytes : List ℕ)
+    → Tells (λ x. (value x, after x)) result (decimal_at low high bytes) → IfOk result (λ x. EndsNumber high (value x) (after x))
+number_end value after (Ok x) low high bytes h = decimal_ends low high bytes (value x) (after x) h
+number_end value after (Err e) low high bytes h = tt
+
+-- a number, without its blank
+abbrev IsDecimal : ℕ → ℕ → List ℕ → Type 0
+IsDecimal low high text = (n : ℕ) × (low ≤ n) × (n ≤ high) × (text ≡ decimal n)
+
+-- where no number is read, the first byte begins none
+decimal_place : (low high left : ℕ) (bytes : List ℕ) → high < 2 ^ 128 → low ≤ 1 → low ≤ high → decimal_at low high bytes ≡ Err left → Leave (IsDecimal low high) bytes left
+decimal_place low high left [] fits one order e =
+    let none : 0 ≡ left = cc in
+    subst (λ l. Leave (IsDecimal low high) [] l) none (leave_now (IsDecimal low high) [] (decimal low) (low, omega arith, order, refl) tt)
+decimal_place low high left (b ∷ bs) fits one order e = at (is_first low high b) refl e
+  where
+    at : (t : Bool) → is_first low high b ≡ t → cond t (Ok (more_digits high (b - 48) bs)) (Err (length (b ∷ bs))) ≡ Err left → Leave (IsDecimal low high) (b ∷ bs) left
+    at true t e = cc
+    at false t e =
+        let all : length (b ∷ bs) ≡ left = cc in
+        subst (λ l. Leave (IsDecimal low high) (b ∷ bs) l) all (leave_now (IsDecimal low high) (b ∷ bs) (decimal low) (low, omega arith, order, refl) none)
+      where
+        none : (more : List ℕ) → IsDecimal low high (b ∷ more) → ⊥
+        none more is =
+            let taken = front_taken low high is.0 (omega (arith, is.2)) one is.1 is.2 [] in
+            let same : decimal is.0 ++ [] ≡ b ∷ more = append-nil (decimal is.0) ∙ sym is.3 in
+            let read : decimal_at low high (b ∷ more) ≡ Ok (more_digits high is.0 []) = sym (ap (decimal_at low high) same) ∙ taken in
+            cc
+
+pub number_place : {X : Type 0} (value : X → ℕ) (after : X → List ℕ) (result : Result X Broken) (low high : ℕ) (whole bytes : List ℕ) → high < 2 ^ 128 → low ≤ 1 → low ≤ high → whole ≡ 32 ∷ bytes
+    → Tells (λ x. (value x, after x)) result (decimal_at low high bytes) → IfErr result (λ e. Leave (IsNumber low high) whole e.left)
+number_place value after (Ok x) low high whole bytes fits one order blank h = tt
+number_place value after (Err e) low high whole bytes fits one order blank h =
+    leave_behind (IsDecimal low high) (IsNumber low high) (32 ∷ []) bytes whole e.left blank
+    (λ t is. (is.0, is.1, is.2, ap (λ l. 32 ∷ l) is.3)) (λ t is. (is.0, is.1, is.2, cc (is.3))) (decimal_place low high e.left bytes fits one order h)

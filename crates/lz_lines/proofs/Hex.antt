@@ -1,12 +1,14 @@
 -- What is read of a hexadecimal number.
-use Rattle.std.proofs.Common.{◌≡◌, ℕ, zero, suc, ◌+◌, ◌-◌, ◌*◌, ◌/◌, ◌%◌, ◌^◌, ◌<◌, ◌≤◌, List, [], ◌∷◌, ◌++◌, Bool, true, false, cond, Ok, Err, Result, IfOk, refl, arith, ap, sym, ◌∙◌, length}
+use Rattle.std.proofs.Common.{◌≡◌, ℕ, zero, suc, ◌+◌, ◌-◌, ◌*◌, ◌/◌, ◌%◌, ◌^◌, ◌<◌, ◌≤◌, List, [], ◌∷◌, ◌++◌, Bool, true, false, cond, Ok, Err, Result, IfOk, IfErr, subst, refl, arith, ap, sym, ◌∙◌, length}
 use Rattle.std.proofs.lemmas.Nat.{pow-add, shr-shr, shr_below, pow_pos}
-use Rattle.std.proofs.Math.Nat.{pow-le-pow_right, lt-div-mul-add, mul-le-mul_right}
+use Rattle.std.proofs.Math.Nat.{pow-le-pow_right, lt-div-mul-add, mul-le-mul_right, mul-div_cancel}
 use Rattle.std.proofs.lemmas.Bool.Decides.{nat_tests}
 use Rattle.std.proofs.Common.{lt-ltb}
 use Rattle.lz_lines.specs.Fields.{field, hex, hex_digits, hex_digit}
 use Rattle.lz_lines.specs.Readers.{Gives}
 use Rattle.lz_lines.specs.Digits.{Tells, is_hex, hex_value, more_hex, is_top, hex_at}
+use Rattle.lz_lines.specs.Places.{IsHex, Leave}
+use Rattle.lz_lines.proofs.Places.{leave_behind, leave_now}
 use Rattle.lz_lines.specs.declared.reading.Broken.{Broken}
 
 power_grows : (i j : ℕ) → i ≤ j → 2 ^ i ≤ 2 ^ j
@@ -101,6 +103,9 @@ bits width low = ap (λ w. 2 ^ w) (omega arith)
 digits_suc : (width n : ℕ) → 1 ≤ width → hex width n ≡ hex_digits (suc ((width + 3) / 4 - 1)) n
 digits_suc width n low = let e : (width + 3) / 4 ≡ suc ((width + 3) / 4 - 1) = omega arith in ap (λ k. hex_digits k n) e
 
+top_is : (width d : ℕ) → is_hex (hex_digit d) ≡ true → hex_value (hex_digit d) ≡ d → d < 2 ^ ((width + 3) % 4 + 1) → is_top width (hex_digit d) ≡ true
+top_is width d a b c = rw (a, b) (lt-ltb d (2 ^ ((width + 3) % 4 + 1)) c)
+
 -- a number that is spelled is read
 hex_again : (width n : ℕ) (rest : List ℕ) → 1 ≤ width → n < 2 ^ width → hex_at width (hex width n ++ rest) ≡ Ok (n, rest)
 hex_again width n rest low fits =
@@ -115,9 +120,6 @@ hex_again width n rest low fits =
     let reads = is.1 in
     let tests : is_top width (hex_digit top) ≡ true = top_is width top is_digit reads below in
     ap (λ l. hex_at width (l ++ rest)) (digits_suc width n low ∙ front k n ∙ ap (λ d. hex_digit d ∷ hex_digits k n) same) ∙ rw (tests, reads) (more_again k n top rest refl)
-  where
-    top_is : (width d : ℕ) → is_hex (hex_digit d) ≡ true → hex_value (hex_digit d) ≡ d → d < 2 ^ ((width + 3) % 4 + 1) → is_top width (hex_digit d) ≡ true
-    top_is width d a b c = rw (a, b) (lt-ltb d (2 ^ ((width + 3) % 4 + 1)) c)
 
 -- what is read is spelled so
 record Takes (width n : ℕ) (bytes rest : List ℕ) : Type 0 where
@@ -161,3 +163,116 @@ hex_only value after (Err e) width n whole bytes rest low blank h fits is =
     let same : bytes ≡ hex width n ++ rest = cc in
     let again = hex_again width n rest low fits in
     cc
+
+-- the digits of a number behind the bits that stand before them
+abbrev IsDigits : ℕ → ℕ → List ℕ → Type 0
+IsDigits k high text = (n : ℕ) × (n / 2 ^ (4 * k) ≡ high) × (text ≡ hex_digits k n)
+
+some_digits : (k high : ℕ) → IsDigits k high (hex_digits k (high * 2 ^ (4 * k)))
+some_digits k high = (high * 2 ^ (4 * k), mul-div_cancel high (pow_pos (4 * k)), refl)
+
+-- a digit stands first
+no_digit : (k high b : ℕ) → is_hex b ≡ false → (more : List ℕ) → IsDigits (suc k) high (b ∷ more) → ⊥
+no_digit k high b t more is =
+    let first : b ∷ more ≡ hex_digit (is.0 / 2 ^ (4 * k) % 16) ∷ hex_digits k is.0 = is.2 ∙ front k is.0 in
+    let same : b ≡ hex_digit (is.0 / 2 ^ (4 * k) % 16) = cc in
+    let digit = (digit_is (is.0 / 2 ^ (4 * k) % 16) (omega arith)).0 in
+    let no : false ≡ true = sym t ∙ ap is_hex same ∙ digit in
+    cc
+
+-- the bits of a first digit, and those behind it
+digit_on : (k high b : ℕ) → is_hex b ≡ true → (t : List ℕ) → IsDigits k (high * 16 + hex_value b) t → IsDigits (suc k) high (b ∷ t)
+digit_on k high b h t is =
+    let was = digit_was b h in
+    let small = was.0 in
+    let over : is.0 / 2 ^ (4 * suc k) ≡ high = ap (λ j. is.0 / 2 ^ j) (omega arith) ∙ sym (shr-shr is.0 (4 * k) 4) ∙ ap (λ x. x / 16) is.1 ∙ omega arith in
+    let low : is.0 / 2 ^ (4 * k) % 16 ≡ hex_value b = ap (λ x. x % 16) is.1 ∙ omega arith in
+    (is.0, over, ap (λ l. b ∷ l) is.2 ∙ ap (λ x. x ∷ hex_digits k is.0) (sym was.1 ∙ ap hex_digit (sym low)) ∙ sym (front k is.0))
+
+digit_off : (k high b : ℕ) (t : List ℕ) → IsDigits (suc k) high (b ∷ t) → IsDigits k (high * 16 + hex_value b) t
+digit_off k high b t is =
+    let top = is.0 / 2 ^ (4 * k) in
+    let first : b ∷ t ≡ hex_digit (top % 16) ∷ hex_digits k is.0 = is.2 ∙ front k is.0 in
+    let same : b ≡ hex_digit (top % 16) = cc in
+    let value : hex_value b ≡ top % 16 = ap hex_value same ∙ (digit_is (top % 16) (omega arith)).1 in
+    let over : top / 16 ≡ high = shr-shr is.0 (4 * k) 4 ∙ ap (λ j. is.0 / 2 ^ j) (omega arith) ∙ is.1 in
+    (is.0, omega (arith, over, value), cc (first))
+
+-- the first digit of a number of so many bits
+top_small : (width n : ℕ) → 1 ≤ width → n < 2 ^ width → (n / 2 ^ (4 * ((width + 3) / 4 - 1)) < 16) × (n / 2 ^ (4 * ((width + 3) / 4 - 1)) < 2 ^ ((width + 3) % 4 + 1))
+top_small width n low fits =
+    let below = shr_below n ((width + 3) % 4 + 1) (4 * ((width + 3) / 4 - 1)) (rw (← (bits width low)) fits) in
+    let most : 2 ^ ((width + 3) % 4 + 1) ≤ 2 ^ 4 = power_grows ((width + 3) % 4 + 1) 4 (omega arith) in
+    (omega (arith, below, most), below)
+
+first_of : (width b n : ℕ) (t : List ℕ) → 1 ≤ width → n < 2 ^ width → b ∷ t ≡ hex width n → (b ≡ hex_digit (n / 2 ^ (4 * ((width + 3) / 4 - 1)))) × (t ≡ hex_digits ((width + 3) / 4 - 1) n)
+first_of width b n t low fits is =
+    let k = (width + 3) / 4 - 1 in
+    let small = (top_small width n low fits).0 in
+    let same : n / 2 ^ (4 * k) % 16 ≡ n / 2 ^ (4 * k) = omega arith in
+    let first : b ∷ t ≡ hex_digit (n / 2 ^ (4 * k)) ∷ hex_digits k n = is ∙ digits_suc width n low ∙ front k n ∙ ap (λ d. hex_digit d ∷ hex_digits k n) same in
+    (cc (first), cc (first))
+
+no_top : (width b : ℕ) → 1 ≤ width → is_top width b ≡ false → (more : List ℕ) → (n : ℕ) × (n < 2 ^ width) × (b ∷ more ≡ hex width n) → ⊥
+no_top width b low t more is =
+    let first = first_of width b is.0 more low is.1 is.2 in
+    let small = top_small width is.0 low is.1 in
+    let digit = digit_is (is.0 / 2 ^ (4 * ((width + 3) / 4 - 1))) small.0 in
+    let no : false ≡ true = sym t ∙ ap (is_top width) first.0 ∙ top_is width _ digit.0 digit.1 small.1 in
+    cc
+
+top_on : (width b : ℕ) → 1 ≤ width → is_top width b ≡ true → (t : List ℕ) → IsDigits ((width + 3) / 4 - 1) (hex_value b) t → (n : ℕ) × (n < 2 ^ width) × (b ∷ t ≡ hex width n)
+top_on width b low h t is =
+    let k = (width + 3) / 4 - 1 in
+    let was = top_was width b h in
+    let back = (digit_was b was.0).1 in
+    let small = (digit_was b was.0).0 in
+    let same : is.0 / 2 ^ (4 * k) % 16 ≡ hex_value b = ap (λ x. x % 16) is.1 ∙ omega arith in (
+      is.0,
+      rw (bits width low) (below_from is.0 (4 * k) ((width + 3) % 4 + 1) (omega (arith, is.1, was.1))),
+      ap (λ l. b ∷ l) is.2 ∙ ap (λ x. x ∷ hex_digits k is.0) (sym back ∙ ap hex_digit (sym same)) ∙ sym (front k is.0) ∙ sym (digits_suc width is.0 low),
+    )
+
+top_off : (width b : ℕ) → 1 ≤ width → (t : List ℕ) → (n : ℕ) × (n < 2 ^ width) × (b ∷ t ≡ hex width n) → IsDigits ((width + 3) / 4 - 1) (hex_value b) t
+top_off width b low t is =
+    let first = first_of width b is.0 t low is.1 is.2 in
+    let digit = digit_is (is.0 / 2 ^ (4 * ((width + 3) / 4 - 1))) (top_small width is.0 low is.1).0 in
+    (is.0, sym (ap hex_value first.0 ∙ digit.1), first.1)
+
+-- where a digit is none, no number goes on
+more_place : (k high left : ℕ) (bytes : List ℕ) → more_hex k high bytes ≡ Err left → Leave (IsDigits k high) bytes left
+more_place zero high left bytes h = cc
+more_place (suc k) high left [] h =
+    let none : 0 ≡ left = cc in
+    subst (λ l. Leave (IsDigits (suc k) high) [] l) none (leave_now (IsDigits (suc k) high) [] _ (some_digits (suc k) high) tt)
+more_place (suc k) high left (b ∷ bs) h = at (more_place k (high * 16 + hex_value b) left bs) (is_hex b) refl h
+  where
+    at : (more_hex k (high * 16 + hex_value b) bs ≡ Err left → Leave (IsDigits k (high * 16 + hex_value b)) bs left)
+        → (t : Bool) → is_hex b ≡ t → cond t (more_hex k (high * 16 + hex_value b) bs) (Err (length (b ∷ bs))) ≡ Err left → Leave (IsDigits (suc k) high) (b ∷ bs) left
+    at more false t e =
+        let all : length (b ∷ bs) ≡ left = cc in
+        subst (λ l. Leave (IsDigits (suc k) high) (b ∷ bs) l) all (leave_now (IsDigits (suc k) high) (b ∷ bs) _ (some_digits (suc k) high) (no_digit k high b t))
+    at more true t e = leave_behind (IsDigits k (high * 16 + hex_value b)) (IsDigits (suc k) high) (b ∷ []) bs (b ∷ bs) left refl (digit_on k high b t) (digit_off k high b) (more e)
+
+-- where a number is refused, no number goes on
+abbrev IsHexText : ℕ → List ℕ → Type 0
+IsHexText width text = (n : ℕ) × (n < 2 ^ width) × (text ≡ hex width n)
+
+hex_place_at : (width left : ℕ) (bytes : List ℕ) → 1 ≤ width → hex_at width bytes ≡ Err left → Leave (IsHexText width) bytes left
+hex_place_at width left [] low h =
+    let none : 0 ≡ left = cc in
+    subst (λ l. Leave (IsHexText width) [] l) none (leave_now (IsHexText width) [] (hex width 0) (0, pow_pos width, refl) tt)
+hex_place_at width left (b ∷ bs) low h = at (is_top width b) refl h
+  where
+    at : (t : Bool) → is_top width b ≡ t → cond t (more_hex ((width + 3) / 4 - 1) (hex_value b) bs) (Err (length (b ∷ bs))) ≡ Err left → Leave (IsHexText width) (b ∷ bs) left
+    at false t e =
+        let all : length (b ∷ bs) ≡ left = cc in
+        subst (λ l. Leave (IsHexText width) (b ∷ bs) l) all (leave_now (IsHexText width) (b ∷ bs) (hex width 0) (0, pow_pos width, refl) (no_top width b low t))
+    at true t e = leave_behind (IsDigits ((width + 3) / 4 - 1) (hex_value b)) (IsHexText width) (b ∷ []) bs (b ∷ bs) left refl (top_on width b low t) (top_off width b low)
+        (more_place ((width + 3) / 4 - 1) (hex_value b) left bs e)
+
+pub hex_place : {X : Type 0} (value : X → ℕ) (after : X → List ℕ) (result : Result X Broken) (width : ℕ) (whole bytes : List ℕ) → 1 ≤ width → whole ≡ 32 ∷ bytes
+    → Tells (λ x. (value x, after x)) result (hex_at width bytes) → IfErr result (λ e. Leave (IsHex width) whole e.left)
+hex_place value after (Ok x) width whole bytes low blank h = tt
+hex_place value after (Err e) width whole bytes low blank h =
+    leave_behind (IsHexText width) (IsHex width) (32 ∷ []) bytes whole e.left blank (λ t is. (is.0, is.1, ap (λ l. 32 ∷ l) is.2)) (λ t is. (is.0, is.1, cc (is.2))) (hex_place_at width e.left bytes low h)

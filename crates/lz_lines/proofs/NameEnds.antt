@@ -1,9 +1,11 @@
 -- Where a name ends.
-use Rattle.std.proofs.Common.{◌≡◌, ℕ, List, [], ◌∷◌, ◌++◌, Bool, true, false, ◌&&◌, ◌||◌, refl, arith, ap}
+use Rattle.std.proofs.Common.{length, ◌≡◌, ℕ, List, [], ◌∷◌, ◌++◌, Bool, true, false, ◌&&◌, ◌||◌, refl, arith, ap, ◌∙◌}
 use Rattle.std.specs.List.{list_all}
 use Rattle.std.proofs.lemmas.Bool.Decides.{nat_tests}
 use Rattle.lz_base.specs.Names.{is_name, is_name_byte, is_name_start}
-use Rattle.lz_lines.specs.Readers.{BeginsWithout}
+use Rattle.lz_lines.specs.Readers.{BeginsWithout, begins_name}
+use Rattle.lz_lines.specs.Places.{IsNameField, Leave, NoneGoesOn}
+use Rattle.lz_lines.proofs.Places.{leave_behind, leave_now}
 
 both : (a b : Bool) → (a && b) ≡ true → (a ≡ true) × (b ≡ true)
 both true true e = (refl, refl)
@@ -47,3 +49,13 @@ one_front p (c ∷ a) (d ∷ b) x y all_a all_b end_x end_y e =
     let rest = one_front p a b x y (both (p c) (list_all p a) all_a).1 (both (p d) (list_all p b) all_b).1 end_x end_y more in
     let front = rest.0 in
     (cc, rest.1)
+
+-- where no name begins behind the blank, no name goes on
+pub name_place : (whole rest : List ℕ) → whole ≡ 32 ∷ rest → begins_name rest ≡ false → Leave IsNameField whole (length rest)
+name_place whole rest blank none =
+    leave_behind (λ t. is_name t ≡ true) IsNameField (32 ∷ []) rest whole (length rest) blank (λ t is. (t, is, refl)) (λ t is. let e : t ≡ is.0 = cc (is.2) in ap is_name e ∙ is.1)
+    (leave_now (λ t. is_name t ≡ true) rest (97 ∷ []) refl (at rest none))
+  where
+    at : (rest : List ℕ) → begins_name rest ≡ false → NoneGoesOn (λ t. is_name t ≡ true) [] rest
+    at [] none = tt
+    at (b ∷ bs) none = λ more is. let start = (both (is_name_start b) (list_all is_name_byte more) is).0 in cc

@@ -3,3 +3,4 @@ pub mod Readers
 pub mod Digits
 pub mod Choice
 pub mod Unread
+pub mod Places

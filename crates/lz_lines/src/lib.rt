@@ -14,3 +14,6 @@ pub use printing::{push_field, push_hex, push_line_end, push_number};
 pub use reading::{Broken, read_end, read_hex, read_number, read_word};
 pub use unread::Unread;
 pub use words::Choice;
+
+#[cfg(test)]
+mod tests;

@@ -2,18 +2,23 @@ ghost use Rattle.std.specs.Prelude.{◌≡◌, true, ◌++◌, ◌≤◌, List, 
 ghost use Rattle.std.specs.List.{list_all};
 ghost use Rattle.lz_base.specs.Names.{is_name, is_name_byte, is_name_start};
 ghost use Rattle.lz_lines.specs.Fields.{field};
+ghost use Rattle.lz_lines.specs.Places.{IsNameField, Leave};
 ghost use Rattle.lz_lines.specs.Readers.{Gives, BeginsWithout, begins_name};
 
-use crate::reading::{Broken, read_word};
+use crate::reading::{Broken, after_blank};
 
 /// Takes a blank and a name, which ends before the first byte that no name has, and gives what is left after it. The
 /// fault is at the blank or at the first byte of the name.
 pub fn read_name<'a>(bytes: &'a [u8]) -> Result<(&'a [u8], &'a [u8]), Broken>
     ensures found { IfOk result (λ r. IsTrue (is_name r.0.now) × (bytes.now ≡ field r.0.now ++ r.1.now)) }
     ensures only { (name rest : List ℕ) → IsTrue (is_name name) → BeginsWithout is_name_byte rest → bytes.now ≡ field name ++ rest → Gives (λ r. r.0.now) (λ r. r.1.now) result name rest }
+    ensures end { IfOk result (λ r. BeginsWithout is_name_byte r.1.now) }
     ensures left { IfErr result (λ e. e.left ≤ length bytes.now) }
+    ensures place { IfErr result (λ e. Leave IsNameField bytes.now e.left) }
 {
-    let rest = read_word(bytes, b" ")?;
+    let Some(rest) = after_blank(bytes) else {
+        return Err(Broken { left: bytes.len() });
+    };
     if !begins_name(rest) {
         return Err(Broken { left: rest.len() });
     }

@@ -1,5 +1,6 @@
-ghost use Rattle.std.specs.Prelude.{true, ◌≡◌, ℕ, ◌+◌, ◌-◌, ◌*◌, ◌^◌, ◌<◌, ◌≤◌, ◌++◌, ◌∷◌, [], List, length, IfOk, IfErr, OnOk, IsOk};
+ghost use Rattle.std.specs.Prelude.{true, ◌≡◌, ℕ, ◌+◌, ◌-◌, ◌*◌, ◌^◌, ◌<◌, ◌≤◌, ◌++◌, ◌∷◌, [], List, length, IfOk, IfErr, OnOk, IsOk, IfSome, IfNone};
 ghost use Rattle.lz_lines.specs.Readers.{Gives, Leaves, BeginsWithout, is_digit};
+ghost use Rattle.lz_lines.specs.Places.{EndsNumber, IsHex, IsNumber, Leave};
 ghost use Rattle.lz_lines.specs.Fields.{number, field, hex};
 ghost use Rattle.lz_lines.specs.Digits.{Tells, decimal_at, more_digits, goes_on, is_first, is_hex, hex_value, is_top, hex_at, more_hex};
 
@@ -17,6 +18,7 @@ pub fn read_word<'a>(bytes: &'a [u8], word: &[u8]) -> Result<&'a [u8], Broken>
     ensures found { IfOk result (λ rest. bytes.now ≡ word.now ++ rest.now) }
     ensures only { (rest : List ℕ) → bytes.now ≡ word.now ++ rest → Leaves (λ r. r.now) result rest }
     ensures left { IfErr result (λ e. e.left ≤ length bytes.now) }
+    ensures place { IfErr result (λ e. Leave (λ t. t ≡ word.now) bytes.now e.left) }
 {
     let Some((letter, letters)) = word.split_first() else {
         return Ok(bytes);
@@ -32,6 +34,7 @@ pub fn read_end(bytes: &[u8]) -> Result<(), Broken>
     ensures found { OnOk result (bytes.now ≡ []) }
     ensures only { bytes.now ≡ [] → IsOk result }
     ensures left { IfErr result (λ e. e.left ≤ length bytes.now) }
+    ensures place { IfErr result (λ e. Leave (λ t. t ≡ []) bytes.now e.left) }
 {
     if bytes.is_empty() {
         Ok(())
@@ -48,10 +51,25 @@ pub fn read_number<'a>(bytes: &'a [u8], low: u128, high: u128) -> Result<(u128, 
     requires high { low ≤ high }
     ensures found { IfOk result (λ r. (low ≤ r.0) × (r.0 ≤ high) × (bytes.now ≡ number r.0 ++ r.1.now)) }
     ensures only { (n : ℕ) (rest : List ℕ) → low ≤ n → n ≤ high → BeginsWithout is_digit rest → bytes.now ≡ number n ++ rest → Gives (λ r. r.0) (λ r. r.1.now) result n rest }
+    ensures end { IfOk result (λ r. EndsNumber high r.0 r.1.now) }
     ensures left { IfErr result (λ e. e.left ≤ length bytes.now) }
+    ensures place { IfErr result (λ e. Leave (IsNumber low high) bytes.now e.left) }
 {
-    let rest = read_word(bytes, b" ")?;
-    decimal(rest, low, high)
+    match after_blank(bytes) {
+        Some(rest) => decimal(rest, low, high),
+        None => Err(Broken { left: bytes.len() }),
+    }
+}
+
+/// What is left after a blank, where one stands at the front.
+pub(crate) fn after_blank(bytes: &[u8]) -> Option<&[u8]>
+    ensures found { IfSome result (λ rest. bytes.now ≡ 32 ∷ rest.now) }
+    ensures only { IfNone result ((rest : List ℕ) → bytes.now ≡ 32 ∷ rest → ⊥) }
+{
+    match bytes.split_first() {
+        Some((byte, rest)) if *byte == b' ' => Some(rest),
+        _ => None,
+    }
 }
 
 // Takes a decimal number.
@@ -111,9 +129,12 @@ pub fn read_hex<'a>(bytes: &'a [u8], width: u32) -> Result<(u128, &'a [u8]), Bro
     ensures found { IfOk result (λ r. (r.0 < 2 ^ width) × (bytes.now ≡ field (hex width r.0) ++ r.1.now)) }
     ensures only { (n : ℕ) (rest : List ℕ) → n < 2 ^ width → bytes.now ≡ field (hex width n) ++ rest → Gives (λ r. r.0) (λ r. r.1.now) result n rest }
     ensures left { IfErr result (λ e. e.left ≤ length bytes.now) }
+    ensures place { IfErr result (λ e. Leave (IsHex width) bytes.now e.left) }
 {
-    let rest = read_word(bytes, b" ")?;
-    hexadecimal(rest, width)
+    match after_blank(bytes) {
+        Some(rest) => hexadecimal(rest, width),
+        None => Err(Broken { left: bytes.len() }),
+    }
 }
 
 // Takes a hexadecimal number.

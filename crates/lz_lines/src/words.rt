@@ -1,4 +1,5 @@
-ghost use Rattle.std.specs.Prelude.{◌≡◌, ◌++◌, ◌≤◌, List, ℕ, length, IfSome, IfNone};
+ghost use Rattle.std.specs.Prelude.{◌≡◌, ◌++◌, ◌≤◌, List, ℕ, length, min, IfSome, IfNone};
+ghost use Rattle.lz_lines.specs.Places.{Leave};
 
 use crate::reading::{Broken, read_word};
 use std::marker::Model;
@@ -25,7 +26,8 @@ impl<'a> Model for Choice<'a> {
 impl<'a> Choice<'a> {
     /// No word is tried yet.
     pub fn new(bytes: &'a [u8]) -> Choice<'a>
-        ensures { result.bytes ≡ bytes.now }
+        ensures bytes { result.bytes ≡ bytes.now }
+        ensures left { result.left ≡ length bytes.now }
     {
         Choice {
             bytes,
@@ -38,6 +40,8 @@ impl<'a> Choice<'a> {
         ensures found { IfSome result (λ rest. self.old.bytes ≡ word.now ++ rest.now) }
         ensures only { IfNone result ((rest : List ℕ) → self.old.bytes ≡ word.now ++ rest → ⊥) }
         ensures kept { self.new.bytes ≡ self.old.bytes }
+        ensures stays { IfSome result (λ rest. self.new.left ≡ self.old.left) }
+        ensures further { IfNone result ((left : ℕ) × Leave (λ t. t ≡ word.now) self.old.bytes left × (self.new.left ≡ min self.old.left left)) }
     {
         match read_word(self.bytes, word) {
             Ok(rest) => Some(rest),
@@ -50,7 +54,8 @@ impl<'a> Choice<'a> {
 
     /// The fault where none of the words that were tried stands at the front.
     pub fn broken(&self) -> Broken
-        ensures { result.left ≤ length self.now.bytes }
+        ensures left { result.left ≡ self.now.left }
+        ensures within { result.left ≤ length self.now.bytes }
     {
         Broken { left: self.left }
     }

@@ -51,3 +51,11 @@ next_state n values = map (λ f. value_at values f.net) n.flops
 -- what the flip-flops hold at first
 abbrev pub first_state : NetlistValue → List Bool
 first_state n = map (λ f. f.first) n.flops
+
+-- A run from a state on: in each cycle, for the words at the inputs, the words that the netlist shows at the outputs.
+abbrev pub Runs : NetlistValue → List Bool → List (List WordValue) → List (List WordValue) → Type 0
+Runs n state [] [] = ⊤
+Runs n state [] (outputs ∷ more) = ⊥
+Runs n state (inputs ∷ cycles) [] = ⊥
+Runs n state (inputs ∷ cycles) (outputs ∷ more) =
+    (values : List Bool) × IsValuation n inputs state values × (outputs ≡ shown n values) × Runs n (next_state n values) cycles more

@@ -1,1 +1,12 @@
-pub mod Lines
+pub mod Adding
+pub mod Forming
+pub mod Nets
+pub mod LineKinds
+pub mod Sections
+pub mod Growing
+pub mod Wholes
+pub mod Lengths
+pub mod MetNames
+pub mod Referring
+pub mod Filling
+pub mod Faulting

@@ -1,9 +1,11 @@
-ghost use Rattle.std.specs.Prelude.{◌≡◌, ◌++◌, flat_map, OnOk, IfOk};
+ghost use Rattle.std.specs.Prelude.{◌≡◌, ◌<◌, ◌++◌, flat_map, OnOk, IfOk};
 ghost use Rattle.std.specs.Option.{option_copied};
+ghost use Rattle.lz_base.specs.Names.{IsName};
 ghost use Rattle.lz_lines.specs.Fields.{number};
 ghost use Rattle.n_cells.specs.Cell.{stored_of};
-ghost use Rattle.n_cells.specs.Netlist.{HasShape};
+ghost use Rattle.n_cells.specs.Netlist.{HasShape, AllBelow, ReadsBelow, FlopsBelow, OutputsBelow};
 ghost use Rattle.n_cells.specs.Text.{input_line, flop_line, cell_line, output_line, output_lines, clock_line, text};
+ghost use Rattle.n_text.specs.Form.{bound, ClockNamed, PortsNamed, CellsBelow, HasForm};
 
 use lz_base::{Name, Num, OutOfMemory, Port};
 use lz_lines::{push_field, push_hex, push_line_end, push_number};
@@ -11,7 +13,8 @@ use n_cells::{Cell, Flop, Netlist};
 use std::alloc::Global;
 
 fn push_numbers(alloc: Global, out: &mut Vec<u8>, ns: &[Num]) -> Result<(), OutOfMemory>
-    ensures { OnOk result (out.new.items ≡ out.old.items ++ flat_map number ns.now) }
+    ensures text { OnOk result (out.new.items ≡ out.old.items ++ flat_map number ns.now) }
+    ensures below { OnOk result (AllBelow bound ns.now) }
 {
     for n in ns {
         push_number(alloc, out, *n)?;
@@ -20,7 +23,8 @@ fn push_numbers(alloc: Global, out: &mut Vec<u8>, ns: &[Num]) -> Result<(), OutO
 }
 
 fn push_input(alloc: Global, out: &mut Vec<u8>, port: &Port) -> Result<(), OutOfMemory>
-    ensures { OnOk result (out.new.items ≡ out.old.items ++ input_line port.now) }
+    ensures text { OnOk result (out.new.items ≡ out.old.items ++ input_line port.now) }
+    ensures named { OnOk result (IsName port.now.name) }
 {
     out.extend_from_slice(b"input")?;
     push_field(out, port.name.bytes())?;
@@ -29,7 +33,8 @@ fn push_input(alloc: Global, out: &mut Vec<u8>, port: &Port) -> Result<(), OutOf
 }
 
 fn push_inputs(alloc: Global, out: &mut Vec<u8>, ports: &[Port]) -> Result<(), OutOfMemory>
-    ensures { OnOk result (out.new.items ≡ out.old.items ++ flat_map input_line ports.now) }
+    ensures text { OnOk result (out.new.items ≡ out.old.items ++ flat_map input_line ports.now) }
+    ensures named { OnOk result (PortsNamed ports.now) }
 {
     for port in ports {
         push_input(alloc, out, port)?;
@@ -38,7 +43,8 @@ fn push_inputs(alloc: Global, out: &mut Vec<u8>, ports: &[Port]) -> Result<(), O
 }
 
 fn push_flop(alloc: Global, out: &mut Vec<u8>, flop: &Flop) -> Result<(), OutOfMemory>
-    ensures { OnOk result (out.new.items ≡ out.old.items ++ flop_line flop.now) }
+    ensures text { OnOk result (out.new.items ≡ out.old.items ++ flop_line flop.now) }
+    ensures below { OnOk result (flop.now.net < bound) }
 {
     out.extend_from_slice(b"ff")?;
     out.extend_from_slice(if flop.first { b" 1" } else { b" 0" })?;
@@ -47,7 +53,8 @@ fn push_flop(alloc: Global, out: &mut Vec<u8>, flop: &Flop) -> Result<(), OutOfM
 }
 
 fn push_flops(alloc: Global, out: &mut Vec<u8>, flops: &[Flop]) -> Result<(), OutOfMemory>
-    ensures { OnOk result (out.new.items ≡ out.old.items ++ flat_map flop_line flops.now) }
+    ensures text { OnOk result (out.new.items ≡ out.old.items ++ flat_map flop_line flops.now) }
+    ensures below { OnOk result (FlopsBelow bound flops.now) }
 {
     for flop in flops {
         push_flop(alloc, out, flop)?;
@@ -57,7 +64,8 @@ fn push_flops(alloc: Global, out: &mut Vec<u8>, flops: &[Flop]) -> Result<(), Ou
 
 fn push_cell(alloc: Global, out: &mut Vec<u8>, cell: Cell<'_>) -> Result<(), OutOfMemory>
     requires { HasShape (stored_of cell) }
-    ensures { OnOk result (out.new.items ≡ out.old.items ++ cell_line (stored_of cell.entry)) }
+    ensures text { OnOk result (out.new.items ≡ out.old.items ++ cell_line (stored_of cell.entry)) }
+    ensures below { OnOk result (ReadsBelow bound (stored_of cell.entry)) }
 {
     match cell {
         Cell::Lut { leaves, table } => {
@@ -78,7 +86,8 @@ fn push_cell(alloc: Global, out: &mut Vec<u8>, cell: Cell<'_>) -> Result<(), Out
 }
 
 fn push_cells(alloc: Global, out: &mut Vec<u8>, netlist: &Netlist) -> Result<(), OutOfMemory>
-    ensures { OnOk result (out.new.items ≡ out.old.items ++ flat_map cell_line netlist.now.cells) }
+    ensures text { OnOk result (out.new.items ≡ out.old.items ++ flat_map cell_line netlist.now.cells) }
+    ensures below { OnOk result (CellsBelow bound netlist.now.cells) }
 {
     for i in 0..netlist.cell_count() {
         push_cell(alloc, out, netlist.cell(i))?;
@@ -92,7 +101,9 @@ fn push_output(
     port: &Port,
     nets: &[Num],
 ) -> Result<(), OutOfMemory>
-    ensures { OnOk result (out.new.items ≡ out.old.items ++ output_line port.now nets.now) }
+    ensures text { OnOk result (out.new.items ≡ out.old.items ++ output_line port.now nets.now) }
+    ensures named { OnOk result (IsName port.now.name) }
+    ensures below { OnOk result (AllBelow bound nets.now) }
 {
     out.extend_from_slice(b"output")?;
     push_field(out, port.name.bytes())?;
@@ -101,7 +112,9 @@ fn push_output(
 }
 
 fn push_outputs(alloc: Global, out: &mut Vec<u8>, netlist: &Netlist) -> Result<(), OutOfMemory>
-    ensures { OnOk result (out.new.items ≡ out.old.items ++ output_lines netlist.now.outputs netlist.now.nets) }
+    ensures text { OnOk result (out.new.items ≡ out.old.items ++ output_lines netlist.now.outputs netlist.now.nets) }
+    ensures named { OnOk result (PortsNamed netlist.now.outputs) }
+    ensures below { OnOk result (OutputsBelow bound netlist.now.nets) }
 {
     let outputs = netlist.outputs();
     for i in 0..outputs.len() {
@@ -111,7 +124,8 @@ fn push_outputs(alloc: Global, out: &mut Vec<u8>, netlist: &Netlist) -> Result<(
 }
 
 fn push_clock(out: &mut Vec<u8>, clock: Option<&Name>) -> Result<(), OutOfMemory>
-    ensures { OnOk result (out.new.items ≡ out.old.items ++ clock_line (option_copied clock.entry)) }
+    ensures text { OnOk result (out.new.items ≡ out.old.items ++ clock_line (option_copied clock.entry)) }
+    ensures named { OnOk result (ClockNamed (option_copied clock.entry)) }
 {
     match clock {
         Some(name) => {
@@ -123,9 +137,10 @@ fn push_clock(out: &mut Vec<u8>, clock: Option<&Name>) -> Result<(), OutOfMemory
     }
 }
 
-/// The one text of a netlist.
+/// The one text of a netlist. The netlist has the form of those that are read back from their texts.
 pub fn print(alloc: Global, netlist: &Netlist) -> Result<Vec<u8>, OutOfMemory>
-    ensures { IfOk result (λ v. v.items ≡ text netlist.now) }
+    ensures text { IfOk result (λ v. v.items ≡ text netlist.now) }
+    ensures form { IfOk result (λ _. HasForm netlist.now) }
 {
     let mut out = Vec::new(alloc);
     out.extend_from_slice(b"lutnet 1\nmodel")?;

@@ -1,11 +1,14 @@
 -- The status that the files call for.
-use Rattle.std.proofs.Common.{◌≡◌, ◌<◌, ◌≤◌, ℕ, ◌^◌, List, length, Option, None, Some, refl, sym, ap, subst, arith, inl}
+use Rattle.std.proofs.Common.{◌≡◌, ◌<◌, ◌≤◌, ℕ, ◌^◌, List, length, Option, None, Some, refl, sym, ap, subst, arith, inl, inr, ◌∙◌}
 use Rattle.lz_base.specs.Outside.{Told, Stands}
 use Rattle.lz_base.specs.Transfer.{StandsLonger}
 use Rattle.lz_base.specs.declared.fault.Fault.{Fault}
-use Rattle.lz_base.specs.declared.rule.Rule.TheVariants.{E1, U1}
+use Rattle.lz_base.specs.declared.rule.Rule.TheVariants.{E1, E2, U1}
 use Rattle.s_cli.specs.declared.status.Status.TheVariants as status
-use Rattle.s_cli.specs.Answers.{IfTold, IsTranslation, IsUnsupported, IsJudged}
+use Rattle.v_syntax.specs.declared.token.Token.{Token}
+use Rattle.v_syntax.specs.Tokens.{Lexes, BreaksAt}
+use Rattle.s_flow.specs.Front.{IsBroken}
+use Rattle.s_cli.specs.Answers.{IfTold, IsTranslation, IsJudged}
 
 -- what holds of the bytes that stand under a name
 pub told_bytes : (told : Told) (name bytes : List ℕ) (P : List ℕ → Type 0) → Stands told name bytes → P bytes → IfTold told name P
@@ -14,25 +17,44 @@ told_bytes (Some content) name bytes P stands holds = λ source is.
     let same : bytes ≡ source = cc in
     subst P same holds
 
+-- A file has one token list or one place where it breaks, and not both.
+pub record OneReading : Type 0 where
+  pub tokens : (bytes : List ℕ) (a b : List Token) → Lexes bytes a → Lexes bytes b → a ≡ b
+  pub place : (bytes : List ℕ) (a b : ℕ) → BreaksAt bytes a → BreaksAt bytes b → a ≡ b
+  pub apart : (bytes : List ℕ) (ts : List Token) (at : ℕ) → Lexes bytes ts → BreaksAt bytes at → ⊥
+
 pub judged_long : (source : List ℕ) → 2 ^ 20 < length source → IsJudged source (status.Refused (record { rule = E1; at = 2 ^ 20 }))
 judged_long source longer = record {
   too_long = λ _. inl refl;
-  unsupported = λ within _. absurd (omega arith);
-  small = λ s within t. absurd (omega arith);
+  unlexed = λ _ within _. absurd (omega arith);
+  unsupported = λ _ within _ _. absurd (omega arith);
+  small = λ _ within _. absurd (omega arith);
 }
 
-pub judged_done : (source output : List ℕ) → IsTranslation source output → IsJudged source status.Ok
-judged_done source output t = record {
+pub judged_done : OneReading → (source output : List ℕ) → IsTranslation source output → IsJudged source status.Ok
+judged_done one source output t = record {
   too_long = λ longer. absurd (omega (arith, t.within));
-  unsupported = λ _ none. absurd (none t.module_ t.spelled);
+  unlexed = λ at _ breaks. absurd (one.apart source t.spelled.tokens at t.spelled.lexed breaks);
+  unsupported = λ ts _ lexed none. absurd (none t.module_ (rw (one.tokens source ts t.spelled.tokens lexed t.spelled.lexed) t.spelled.small));
   small = λ _ _ _. inl refl;
 }
 
-pub judged_unsupported : (source : List ℕ) (fault : Fault) → IsUnsupported source fault → IsJudged source (status.Refused fault)
-judged_unsupported source fault r = record {
-  too_long = λ longer. absurd (omega (arith, r.within));
-  unsupported = λ _ _. inl (ap (λ (f : Fault). status.Refused f) r.fault_is);
-  small = λ s _ t. absurd (r.none s t);
+pub judged_broken : OneReading → (source : List ℕ) (fault : Fault) → length source ≤ 2 ^ 20 → IsBroken source fault → IsJudged source (status.Refused fault)
+judged_broken one source fault within (inl r) = record {
+  too_long = λ longer. absurd (omega arith);
+  unlexed = λ at _ breaks.
+      let rule : fault.rule ≡ E2 = r.rule_is in
+      let place : fault.at ≡ at = one.place source fault.at at r.breaks breaks in
+      let same : fault ≡ record { rule = E2; at = at } = ap (λ r. record { rule = r; at = fault.at }) rule ∙ ap (λ a. record { rule = E2; at = a }) place in
+      inl (ap (λ (f : Fault). status.Refused f) same);
+  unsupported = λ ts _ lexed _. absurd (one.apart source ts fault.at lexed r.breaks);
+  small = λ s _ t. absurd (one.apart source t.tokens fault.at t.lexed r.breaks);
+}
+judged_broken one source fault within (inr r) = record {
+  too_long = λ longer. absurd (omega arith);
+  unlexed = λ at _ breaks. absurd (one.apart source r.tokens at r.lexed breaks);
+  unsupported = λ _ _ _ _. inl (ap (λ (f : Fault). status.Refused f) r.fault_is);
+  small = λ s _ t. absurd (r.none s (rw (one.tokens source r.tokens t.tokens r.lexed t.lexed) t.small));
 }
 
 -- where more than the limit stand under a name, that holds of the bytes there

@@ -1,1 +1,3 @@
 pub mod Judged
+pub mod Widths
+pub mod Simulated

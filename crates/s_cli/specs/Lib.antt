@@ -2,3 +2,4 @@ pub mod Words
 pub mod Status
 pub mod Answers
 pub mod Translates
+pub mod Simulation

@@ -1,5 +1,5 @@
 -- The statuses, their numbers and their lines.
-use Rattle.std.specs.Prelude.{◌≡◌, ◌⊎◌, ℕ, List, [], ◌∷◌, ◌++◌, take, codes, Option, ⊤}
+use Rattle.std.specs.Prelude.{◌≡◌, ◌⊎◌, ℕ, List, [], ◌∷◌, ◌++◌, take, codes, Option, Result, Ok, Err, ⊤}
 use Rattle.std.specs.Fmt.{decimal}
 use Rattle.std.specs.Io.KnownBytes.{Appends}
 use Rattle.lz_base.specs.Causes.{Rose}
@@ -77,6 +77,24 @@ OnSilent status.ReadFault P = P
 OnSilent status.WriteFault P = ⊤
 OnSilent status.OutOfMemory P = P
 
+-- a status of what stands against an output that is not made yet
+abbrev pub IsFailure : Status → Type 0
+IsFailure status.Ok = ⊥
+IsFailure (status.Refused fault) = ⊤
+IsFailure status.Usage = ⊤
+IsFailure status.ReadFault = ⊤
+IsFailure status.WriteFault = ⊥
+IsFailure status.OutOfMemory = ⊤
+
+-- the status of an output that goes out, or of what stands against it
+abbrev pub status_of : {T : Type 0} → Result T Status → Status
+status_of (Ok v) = status.Ok
+status_of (Err s) = s
+
 -- the status is this one, or memory was wanting
 abbrev pub IsUnlessMemory : Status → Status → Type 0
 IsUnlessMemory s expected = (s ≡ expected) ⊎ (s ≡ status.OutOfMemory)
+
+-- the status refuses with such a fault, or memory was wanting
+abbrev pub IsRefusedUnlessMemory : Status → (Fault → Type 0) → Type 0
+IsRefusedUnlessMemory s P = ((fault : Fault) × P fault × (s ≡ status.Refused fault)) ⊎ (s ≡ status.OutOfMemory)

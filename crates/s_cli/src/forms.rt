@@ -3,4 +3,6 @@
 pub enum Command {
     /// `synth FILE`
     Synth,
+    /// `simn NETLIST STIM`
+    Simn,
 }

@@ -8,7 +8,10 @@
 mod forms;
 mod reporting;
 mod running;
+mod simulating;
+mod simulation;
 mod status;
+mod synthesis;
 #[cfg(test)]
 mod tests;
 mod words;

@@ -1,62 +1,34 @@
-ghost use Rattle.std.specs.Prelude.{◌≡◌, ◌<◌, ◌≤◌, ◌^◌, length, take, None, Some, ◌↔◌, ℕ, List};
+ghost use Rattle.std.specs.Prelude.{◌≡◌, ◌<◌, ◌≤◌, ◌^◌, length, take, Err, IfOk, IfErr, ◌↔◌, ℕ, List};
 ghost use Rattle.std.specs.Io.KnownBytes.{Appends};
 ghost use Rattle.lz_base.specs.Causes.{Rose};
-ghost use Rattle.s_cli.specs.Words.{request_of, synth, unknown};
-ghost use Rattle.s_cli.specs.Status.{OnDone, OnWriteFault, OnReadFault, IfRefused, OnSilent, Writes, status_line};
+ghost use Rattle.s_cli.specs.Words.{request_of, shown_request, synth, simn, unknown};
+ghost use Rattle.s_cli.specs.Status.{OnDone, OnWriteFault, OnReadFault, IfRefused, OnSilent, Writes, IsFailure, status_of, status_line};
 ghost use Rattle.s_cli.specs.Answers.{IsOutput, IsRefusal, IsComplete};
-ghost use Rattle.s_cli.specs.Translates.{Translates};
 
 use crate::Status;
 use crate::reporting::report;
+use crate::simulation::simulation;
+use crate::synthesis::synthesis;
 use crate::words::{Asked, asked_by};
-use lz_base::{Fault, Files, ReadEnd, Rule, Sink, Stop, read_file, write_all};
-use s_flow::{front, make};
+use lz_base::{Files, Sink, write_all};
 use std::alloc::Global;
 
-/// The longest source.
-const LIMIT: u64 = 1 << 20;
-
-// The text of a netlist that realises the module of the source.
-fn translate(alloc: Global, source: &[u8]) -> Result<Vec<u8>, Stop>
-    requires { length source.now ≤ 2 ^ 20 }
-    ensures { Translates source.now result }
-{
-    let module = front(alloc, source)?;
-    let netlist = make(alloc, &module)?;
-    Ok(n_text::print(alloc, &netlist)?)
-}
-
-fn synthesise<F: Files, O: Sink>(alloc: Global, name: &str, files: &mut F, out: &mut O) -> Status
-    ensures no_usage { result ≡ Status.Usage → ⊥ }
-    ensures read { OnReadFault result (Rose (F.faults files.old) (F.faults files.new)) }
-    ensures read_always { F.faults files.old < F.faults files.new → result ≡ Status.ReadFault }
-    ensures write { OnWriteFault result (Rose (O.faults out.old) (O.faults out.new)) }
-    ensures write_always { O.faults out.old < O.faults out.new → result ≡ Status.WriteFault }
+// The whole output that is asked for, or the status of what stands against it.
+fn answer<F: Files>(alloc: Global, asked: Asked<'_>, files: &mut F) -> Result<Vec<u8>, Status>
+    ensures failure { IfErr result IsFailure }
+    ensures usage { result ≡ Err Status.Usage ↔ (shown_request asked.entry ≡ unknown) }
+    ensures unopened { result ≡ Err Status.Usage → files.new ≡ files.old }
+    ensures read { IfErr result (λ s. OnReadFault s (Rose (F.faults files.old) (F.faults files.new))) }
+    ensures read_always { F.faults files.old < F.faults files.new → result ≡ Err Status.ReadFault }
     ensures told { F.told files.new ≡ F.told files.old }
-    ensures refused { IfRefused result (IsRefusal (synth name.now) (F.told files.old)) }
-    ensures done { OnDone result ((text : List ℕ) × IsOutput (synth name.now) (F.told files.old) text × Appends (O.written out.old) (O.written out.new) text) }
-    ensures part { OnWriteFault result ((text : List ℕ) × (sent : ℕ) × IsOutput (synth name.now) (F.told files.old) text × Appends (O.written out.old) (O.written out.new) (take sent text)) }
-    ensures silent { OnSilent result (out.new ≡ out.old) }
-    ensures complete { (Rose (F.faults files.old) (F.faults files.new) → ⊥) → (Rose (O.faults out.old) (O.faults out.new) → ⊥) → IsComplete (synth name.now) (F.told files.old) result }
+    ensures refused { IfErr result (λ s. IfRefused s (IsRefusal (shown_request asked.entry) (F.told files.old))) }
+    ensures done { IfOk result (λ v. IsOutput (shown_request asked.entry) (F.told files.old) v.items) }
+    ensures complete { (Rose (F.faults files.old) (F.faults files.new) → ⊥) → IsComplete (shown_request asked.entry) (F.told files.old) (status_of result) }
 {
-    let source = match read_file(alloc, files, name, LIMIT) {
-        Ok(source) => source,
-        Err(ReadEnd::Fault) => return Status::ReadFault,
-        Err(ReadEnd::TooLong) => {
-            return Status::Refused(Fault {
-                rule: Rule::E1,
-                at: LIMIT,
-            });
-        }
-        Err(ReadEnd::OutOfMemory) => return Status::OutOfMemory,
-    };
-    match translate(alloc, &source) {
-        Ok(text) => match write_all(out, &text) {
-            Ok(()) => Status::Ok,
-            Err(_) => Status::WriteFault,
-        },
-        Err(Stop::OutOfMemory) => Status::OutOfMemory,
-        Err(Stop::Fault(fault)) => Status::Refused(fault),
+    match asked {
+        Asked::Unknown => Err(Status::Usage),
+        Asked::Synth(source) => synthesis(alloc, files, source),
+        Asked::Simn(netlist, stimulus) => simulation(alloc, files, netlist, stimulus),
     }
 }
 
@@ -95,9 +67,12 @@ pub fn run<F: Files, O: Sink, E: Sink>(
 
     ensures line { Writes (E.faults err.old) (E.faults err.new) (E.written err.old) (E.written err.new) (status_line result) }
 {
-    let status = match asked_by(words) {
-        Asked::Unknown => Status::Usage,
-        Asked::Synth(name) => synthesise(alloc, name, files, out),
+    let status = match answer(alloc, asked_by(words), files) {
+        Ok(text) => match write_all(out, &text) {
+            Ok(()) => Status::Ok,
+            Err(_) => Status::WriteFault,
+        },
+        Err(status) => status,
     };
     report(err, status);
     status

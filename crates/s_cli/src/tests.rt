@@ -7,6 +7,9 @@ use std::test::Fail;
 const ONE_REGISTER: &[u8] =
     b"module t(input clk, input a, output reg q);\nalways @(posedge clk) q <= a ^ q;\nendmodule\n";
 
+const COMMENTED: &[u8] =
+    b"`timescale 1ns / 1ps\nmodule t /* x */ (input clk, input a, output reg q); // y\nalways @(posedge clk) q <= a ^ q;\nendmodule\n";
+
 const INVERTED: &[u8] =
     b"module t(input clk, input a, output reg q);\nalways @(posedge clk) q <= ~a;\nendmodule\n";
 
@@ -36,6 +39,21 @@ fn word_list(alloc: Global, words: &[&str]) -> Result<Vec<String>, AllocError> {
     Ok(list)
 }
 
+// A netlist `n` and a stimulus `s`.
+fn netlist_and_stimulus(
+    alloc: Global,
+    netlist: &[u8],
+    stimulus: &[u8],
+) -> Result<MemFiles, AllocError> {
+    let first = netlist.to_vec(alloc)?;
+    let second = stimulus.to_vec(alloc)?;
+    let files = vec![in alloc;
+        (String::from_str(alloc, "n")?, first),
+        (String::from_str(alloc, "s")?, second),
+    ]?;
+    Ok(MemFiles::new(files, Vec::new(alloc)))
+}
+
 // One file `t.v`, where the calls of these numbers fail.
 fn one_file(alloc: Global, bytes: &[u8], fail: &[u64]) -> Result<MemFiles, AllocError> {
     let name = String::from_str(alloc, "t.v")?;
@@ -48,7 +66,7 @@ fn texts_are_translated_or_refused(rt: HostRuntime) -> Result<(), Fail> {
     let refused = |rule: Rule, at: u64| Status::Refused(Fault { rule, at });
     let nothing: &[u8] = b"";
     let unsupported: &[u8] = b"error: U1 at 0\n";
-    let cases: [(&[u8], Status, &[u8], &[u8]); 10] = [
+    let cases: [(&[u8], Status, &[u8], &[u8]); 11] = [
         (ONE_REGISTER, Status::Ok, ONE_REGISTER_NETLIST, nothing),
         (INVERTED, Status::Ok, INVERTED_NETLIST, nothing),
         (TWO_REGISTERS, Status::Ok, TWO_REGISTERS_NETLIST, nothing),
@@ -56,10 +74,11 @@ fn texts_are_translated_or_refused(rt: HostRuntime) -> Result<(), Fail> {
         (nothing, refused(Rule::U1, 0), nothing, unsupported),
         (
             b"module t; % endmodule",
-            refused(Rule::U1, 0),
+            refused(Rule::E2, 10),
             nothing,
-            unsupported,
+            b"error: E2 at 10\n",
         ),
+        (COMMENTED, Status::Ok, ONE_REGISTER_NETLIST, nothing),
         (
             b"module t(input c, output reg q); always @(posedge c) q <= c; endmodule",
             refused(Rule::U1, 0),
@@ -204,6 +223,65 @@ fn long_sources_are_refused(rt: HostRuntime) -> Result<(), Fail> {
         let mut err = MemSink::new(rt.alloc(), 100, 100)?;
         let answer = run(rt.alloc(), words.as_slice(), &mut files, &mut out, &mut err);
         assert_eq!(rt; answer, Status::Refused(Fault { rule, at }));
+        assert_eq!(rt; err.bytes(), errors);
+    }
+    Ok(())
+}
+
+#[test]
+fn netlists_are_simulated(rt: HostRuntime) -> Result<(), Fail> {
+    let refused = |rule: Rule, at: u64| Status::Refused(Fault { rule, at });
+    let nothing: &[u8] = b"";
+    let missing: &[u8] =
+        b"lutnet 1\nmodel t\nclock clk\ninput a 1\nff 0 4\nlut 2 2 3 6\noutput q 9\nend\n";
+    let cut: &[u8] =
+        b"lutnet 1\nmodel t\nclock clk\ninput a 1\nff 0 4\nlut 2 2 3 6\noutput q 3\nen";
+    let cases: [(&[u8], &[u8], Status, &[u8], &[u8]); 5] = [
+        (
+            ONE_REGISTER_NETLIST,
+            b"stim 1\nin 1\nin 1\nin 0\nend\n",
+            Status::Ok,
+            b"trace 1\nout 0\nout 1\nout 0\nend\n",
+            nothing,
+        ),
+        (
+            ONE_REGISTER_NETLIST,
+            b"stim 1\nend\n",
+            Status::Ok,
+            b"trace 1\nend\n",
+            nothing,
+        ),
+        (
+            missing,
+            b"stim 1\nin 2\nend\n",
+            refused(Rule::N2, 65),
+            nothing,
+            b"error: N2 at 65\n",
+        ),
+        (
+            cut,
+            b"stim 1\nin 2\nend\n",
+            refused(Rule::N1, 69),
+            nothing,
+            b"error: N1 at 69\n",
+        ),
+        (
+            ONE_REGISTER_NETLIST,
+            b"stim 1\nin 2\nend\n",
+            refused(Rule::T1, 10),
+            nothing,
+            b"error: T1 at 10\n",
+        ),
+    ];
+    for (netlist, stimulus, status, output, errors) in cases {
+        let words = word_list(rt.alloc(), &["simn", "n", "s"])?;
+        assert_eq!(rt; command(words.as_slice()), Some(Command::Simn));
+        let mut files = netlist_and_stimulus(rt.alloc(), netlist, stimulus)?;
+        let mut out = MemSink::new(rt.alloc(), 1000, 1000)?;
+        let mut err = MemSink::new(rt.alloc(), 100, 100)?;
+        let answer = run(rt.alloc(), words.as_slice(), &mut files, &mut out, &mut err);
+        assert_eq!(rt; answer, status);
+        assert_eq!(rt; out.bytes(), output);
         assert_eq!(rt; err.bytes(), errors);
     }
     Ok(())

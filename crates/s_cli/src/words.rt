@@ -8,6 +8,7 @@ use crate::Command;
 pub(crate) enum Asked<'a> {
     Unknown,
     Synth(&'a str),
+    Simn(&'a str, &'a str),
 }
 
 // What the words ask for.
@@ -16,6 +17,9 @@ pub(crate) fn asked_by(words: &[String]) -> Asked<'_>
 {
     match words {
         [verb, file] if verb.as_str() == "synth" => Asked::Synth(file.as_str()),
+        [verb, netlist, stimulus] if verb.as_str() == "simn" => {
+            Asked::Simn(netlist.as_str(), stimulus.as_str())
+        }
         _ => Asked::Unknown,
     }
 }
@@ -29,5 +33,6 @@ pub fn command(words: &[String]) -> Option<Command>
     match asked_by(words) {
         Asked::Unknown => None,
         Asked::Synth(_) => Some(Command::Synth),
+        Asked::Simn(_, _) => Some(Command::Simn),
     }
 }

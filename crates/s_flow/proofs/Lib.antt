@@ -3,4 +3,4 @@ pub mod Tables
 pub mod Schedules
 pub mod Follow
 pub mod Lines
-pub mod NoneSmall
+pub mod Refused

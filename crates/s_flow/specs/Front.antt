@@ -1,19 +1,33 @@
 -- What the front end answers.
-use Rattle.std.specs.Prelude.{◌≡◌, ℕ, List, Result, Ok, Err, ⊤}
+use Rattle.std.specs.Prelude.{◌≡◌, ◌⊎◌, ℕ, List, Result, Ok, Err, ⊤}
 use Rattle.lz_base.specs.declared.fault.Stop.{Stop}
 use Rattle.lz_base.specs.declared.fault.Stop.TheVariants as stop
 use Rattle.lz_base.specs.declared.fault.Fault.{Fault}
-use Rattle.lz_base.specs.declared.rule.Rule.TheVariants.{U1}
+use Rattle.lz_base.specs.declared.rule.Rule.TheVariants.{E2, U1}
+use Rattle.v_syntax.specs.declared.token.Token.{Token}
 use Rattle.v_syntax.specs.declared.small.SmallModule.{SmallModule}
-use Rattle.v_syntax.specs.SmallText.{IsSmallText}
+use Rattle.v_syntax.specs.Tokens.{Lexes, BreaksAt}
+use Rattle.v_syntax.specs.Small.{IsSmall}
+use Rattle.s_flow.specs.SmallText.{IsSmallText}
 
--- the bytes are refused: they are a text of no small module
-pub record IsNoSmallText (bytes : List ℕ) (fault : Fault) : Type 0 where
+-- E2: at this byte begins neither white space, a comment, a skipped line nor a token.
+pub record IsUnlexed (bytes : List ℕ) (fault : Fault) : Type 0 where
+  pub breaks : BreaksAt bytes fault.at
+  pub rule_is : fault.rule ≡ E2
+
+-- U1: the bytes have tokens, and these are those of no small module.
+pub record IsNotSmall (bytes : List ℕ) (fault : Fault) : Type 0 where
+  pub tokens : List Token
+  pub lexed : Lexes bytes tokens
+  pub none : (s : SmallModule) → IsSmall tokens s → ⊥
   pub fault_is : fault ≡ record { rule = U1; at = 0 }
-  pub none : (s : SmallModule) → IsSmallText bytes s → ⊥
 
--- the module of the bytes, or the refusal where they are a text of none
+-- the first rule that the bytes break, behind the limit on their number
+abbrev pub IsBroken : List ℕ → Fault → Type 0
+IsBroken bytes fault = IsUnlexed bytes fault ⊎ IsNotSmall bytes fault
+
+-- the small module of the bytes, or the fault for which they are refused
 abbrev pub IsRead : List ℕ → Result SmallModule Stop → Type 0
 IsRead bytes (Ok s) = IsSmallText bytes s
-IsRead bytes (Err (stop.Fault fault)) = IsNoSmallText bytes fault
+IsRead bytes (Err (stop.Fault fault)) = IsBroken bytes fault
 IsRead bytes (Err stop.OutOfMemory) = ⊤

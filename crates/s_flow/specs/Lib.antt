@@ -1,3 +1,4 @@
+pub mod SmallText
 pub mod Realises
 pub mod Made
 pub mod Front

@@ -3,5 +3,7 @@ pub mod WordForms
 pub mod MarkForms
 pub mod FirstBytes
 pub mod Steps
+pub mod BasedNumbers
+pub mod Between
 pub mod Scans
 pub mod OneReading

@@ -1,6 +1,6 @@
 -- The pieces of a text are determined.
-use Rattle.std.proofs.Common.{◌≡◌, ◌≢◌, ℕ, List, [], ◌∷◌, ◌++◌, inl, inr, refl, sym, ap, subst, ◌∙◌, arith, length, append_assoc, append-nil}
-use Rattle.std.proofs.lemmas.List.{append_cancel_left}
+use Rattle.std.proofs.Common.{◌≡◌, ◌≢◌, ℕ, true, false, Some, List, [], ◌∷◌, ◌++◌, refl, sym, ap, subst, ◌∙◌, inl, inr, arith, length, append_assoc, append-nil}
+use Rattle.std.proofs.lemmas.List.{append_cancel_left, append_cancel_right}
 use Rattle.v_syntax.specs.declared.token.Lexeme.{Lexeme}
 use Rattle.v_syntax.specs.declared.token.Lexeme.TheVariants as l
 use Rattle.v_syntax.specs.declared.token.Keyword.{Keyword}
@@ -9,10 +9,13 @@ use Rattle.v_syntax.specs.declared.token.Cast.{Cast}
 use Rattle.v_syntax.specs.declared.token.Cast.TheVariants as c
 use Rattle.v_syntax.specs.declared.token.Token.{Token}
 use Rattle.v_syntax.specs.Tokens.{keyword_spelling, mark_spelling, cast_spelling, unused_words, IsOneOf, spelling, HasForm, Piece, piece_text, text_of, IsPiece, IsSplit, tokens_from, Begins, Lexes, BreaksAt}
-use Rattle.v_syntax.specs.Tokens.Piece.{White, Item}
-use Rattle.lz_base.specs.Names.{IsNew}
-use Rattle.v_lexer.specs.Scan.{keyword_in, keywords, mark_in, marks}
-use Rattle.v_lexer.proofs.FirstBytes.{kind_of, lexeme_kind, piece_kind, piece_begins, piece_has_bytes}
+use Rattle.v_syntax.specs.Tokens.Piece.{White, LineComment, BlockComment, Skipped, Item}
+use Rattle.lz_base.specs.Names.{is_name_byte, IsNew}
+use Rattle.v_lexer.specs.Scan.{kind_of, keyword_in, keywords, mark_in, marks, front_of, after_gap, IsGap}
+use Rattle.v_lexer.proofs.FirstBytes.{lexeme_kind, piece_kind, piece_begins, piece_has_bytes}
+use Rattle.v_lexer.proofs.Runs.{second, unlike}
+use Rattle.v_lexer.proofs.Steps.{begins_no_token, begins_token}
+use Rattle.v_lexer.proofs.Between.{gap_passed, skipped_word}
 use Rattle.v_lexer.proofs.WordForms.{keyword_found, unused_no_keyword}
 use Rattle.v_lexer.proofs.MarkForms.{mark_found}
 
@@ -75,24 +78,55 @@ same_lexeme (l.Based a) _ f g is kinds = absurd (cc)
 same_lexeme (l.Mark a) (l.Mark b) f g is kinds = ap l.Mark (mark_same a b is)
 same_lexeme (l.Mark a) _ f g is kinds = absurd (cc)
 
-not_white : (lexeme : Lexeme) → lexeme_kind lexeme ≢ 5
-not_white (l.Identifier name) = λ e. cc
-not_white (l.Keyword word) = λ e. cc
-not_white (l.Reserved word) = λ e. cc
-not_white (l.Cast sign) = λ e. cc
-not_white (l.Decimal bytes) = λ e. cc
-not_white (l.Based bytes) = λ e. cc
-not_white (l.Mark mark) = λ e. cc
+-- two gaps of the same bytes are equal
+same_gap : (p q : Piece) (r s : List ℕ) → IsGap p → IsGap q → piece_text p ≡ piece_text q → IsPiece p r → IsPiece q s → piece_kind p ≡ piece_kind q → p ≡ q
+same_gap (White a) (White b) r s u v is f g kinds = let head : a ≡ b = cc in ap White head
+same_gap (LineComment a) (LineComment b) r s u v is f g kinds = let body : a ≡ b = cc in ap LineComment body
+same_gap (BlockComment a) (BlockComment b) r s u v is f g kinds =
+    let closed : a ++ 42 ∷ 47 ∷ [] ≡ b ++ 42 ∷ 47 ∷ [] = cc in
+    ap BlockComment (append_cancel_right a b (42 ∷ 47 ∷ []) closed)
+same_gap (LineComment a) (BlockComment b) r s u v is f g kinds = absurd (unlike 47 42 refl (ap second is))
+same_gap (BlockComment a) (LineComment b) r s u v is f g kinds = absurd (unlike 42 47 refl (ap second is))
+same_gap (Skipped a x) (Skipped b y) r s u v is f g kinds =
+    let text : a ++ x ≡ b ++ y = cc in
+    let word : a ≡ b = sym (skipped_word a x r f) ∙ ap (front_of is_name_byte) (sym (append_assoc a x r) ∙ ap (λ l. l ++ r) text ∙ append_assoc b y r) ∙ skipped_word b y r (g.0, g.1, g.2, f.3) in
+    let body : x ≡ y = append_cancel_left b x y (ap (λ l. l ++ x) (sym word) ∙ text) in
+    cc
+same_gap (Item a) q r s u v is f g kinds = absurd u
+same_gap p (Item b) r s u v is f g kinds = absurd v
+same_gap p q r s u v is f g kinds = absurd (cc)
+
+gap_begins_none : (gap : Piece) → IsGap gap → begins_no_token (piece_kind gap) ≡ true
+gap_begins_none (Item lexeme) is = absurd is
+gap_begins_none _ is = refl
+
+gap_apart : (gap : Piece) (lexeme : Lexeme) → IsGap gap → piece_kind gap ≢ lexeme_kind lexeme
+gap_apart gap lexeme is = λ same.
+    let some : begins_no_token (piece_kind gap) ≡ false = ap begins_no_token same ∙ begins_token lexeme in
+    let none = gap_begins_none gap is in
+    cc
+
+some_same : (x y : List ℕ) → Some x ≡ Some y → x ≡ y
+some_same x y is = cc
+
+same_gaps : (p q : Piece) (r s : List ℕ) → IsGap p → IsGap q → piece_text p ++ r ≡ piece_text q ++ s → IsPiece p r → IsPiece q s → piece_kind p ≡ piece_kind q → p ≡ q
+same_gaps p q r s u v is f g kinds =
+    let rest : r ≡ s = some_same r s (sym (gap_passed p r u f) ∙ ap after_gap is ∙ gap_passed q s v g) in
+    let text : piece_text p ≡ piece_text q = append_cancel_right (piece_text p) (piece_text q) r (is ∙ ap (λ l. piece_text q ++ l) (sym rest)) in
+    same_gap p q r s u v text f g kinds
+
+same_item : (a b : Lexeme) (r s : List ℕ) → spelling a ++ r ≡ spelling b ++ s → IsPiece (Item a) r → IsPiece (Item b) s → lexeme_kind a ≡ lexeme_kind b → a ≡ b
+same_item a b r s is f g kinds =
+    let up = f.1 b s g.0 is in
+    let down = g.1 a r f.0 (sym is) in
+    same_lexeme a b f.0 g.0 (same_front (spelling a) (spelling b) r s is (omega arith)) kinds
 
 -- two pieces that begin one text are equal
 same_piece : (p q : Piece) (r s : List ℕ) → piece_text p ++ r ≡ piece_text q ++ s → IsPiece p r → IsPiece q s → piece_kind p ≡ piece_kind q → p ≡ q
-same_piece (White a) (White b) r s is f g kinds = let head : a ≡ b = cc in ap White head
-same_piece (White a) (Item b) r s is f g kinds = absurd (not_white b (sym kinds))
-same_piece (Item a) (White b) r s is f g kinds = absurd (not_white a kinds)
-same_piece (Item a) (Item b) r s is f g kinds =
-    let up = f.1 b s g.0 is in
-    let down = g.1 a r f.0 (sym is) in
-    ap Item (same_lexeme a b f.0 g.0 (same_front (spelling a) (spelling b) r s is (omega arith)) kinds)
+same_piece (Item a) (Item b) r s is f g kinds = ap Item (same_item a b r s is f g kinds)
+same_piece (Item a) q r s is f g kinds = absurd (gap_apart q a tt (sym kinds))
+same_piece p (Item b) r s is f g kinds = absurd (gap_apart p b tt kinds)
+same_piece p q r s is f g kinds = same_gaps p q r s tt tt is f g kinds
 
 -- no piece begins here
 abbrev Stuck : List ℕ → Type 0

@@ -2,10 +2,10 @@
 use Rattle.std.proofs.Common.{◌≡◌, ◌≢◌, ◌≤◌, ◌<◌, ◌+◌, ◌-◌, ℕ, List, [], ◌∷◌, ◌++◌, refl, sym, ap, subst, ◌∙◌, arith, length, append_assoc, append-nil, length-append}
 use Rattle.v_syntax.specs.declared.token.Lexeme.{Lexeme}
 use Rattle.v_syntax.specs.declared.token.Token.{Token}
-use Rattle.v_syntax.specs.Tokens.{spelling, HasForm, Piece, piece_text, text_of, IsPiece, IsSplit, tokens_from, Begins, Lexes, BreaksAt, AreTokens}
-use Rattle.v_syntax.specs.Tokens.Piece.{White, Item}
-use Rattle.v_lexer.specs.Scan.{IsGap, Skips, Scanned}
-use Rattle.v_lexer.proofs.FirstBytes.{kind_of, lexeme_begins, piece_has_bytes}
+use Rattle.v_syntax.specs.Tokens.{spelling, HasForm, Piece, piece_text, text_of, IsPiece, IsSplit, token_of, tokens_from, Begins, Lexes, BreaksAt, AreTokens}
+use Rattle.v_syntax.specs.Tokens.Piece.{White, LineComment, BlockComment, Skipped, Item}
+use Rattle.v_lexer.specs.Scan.{kind_of, IsGap, Skips, Scanned, BeginsNoToken}
+use Rattle.v_lexer.proofs.FirstBytes.{lexeme_begins, piece_has_bytes}
 
 text_more : (pieces : List Piece) (piece : Piece) → text_of (pieces ++ piece ∷ []) ≡ text_of pieces ++ piece_text piece
 text_more [] piece = append-nil (piece_text piece)
@@ -18,15 +18,13 @@ split_more (first ∷ pieces) piece rest split is =
     = sym (append_assoc (text_of pieces) (piece_text piece) rest) ∙ ap (λ l. l ++ rest) (sym (text_more pieces piece)) in
     (subst (λ (l : List ℕ). IsPiece first l) behind split.0, split_more pieces piece rest split.1 is)
 
-tokens_more : (at : ℕ) (pieces : List Piece) (piece : Piece) → tokens_from at (pieces ++ piece ∷ []) ≡ tokens_from at pieces ++ tokens_from (at + length (text_of pieces)) (piece ∷ [])
-tokens_more at [] piece = let e : at + 0 ≡ at = omega arith in ap (λ n. tokens_from n (piece ∷ [])) (sym e)
-tokens_more at (White byte ∷ pieces) piece =
-    let n : at + 1 + length (text_of pieces) ≡ at + length (byte ∷ text_of pieces) = omega arith in
-    tokens_more (at + 1) pieces piece ∙ ap (λ n. tokens_from (at + 1) pieces ++ tokens_from n (piece ∷ [])) n
-tokens_more at (Item lexeme ∷ pieces) piece =
-    let n : at + length (spelling lexeme) + length (text_of pieces) ≡ at + length (spelling lexeme ++ text_of pieces) = omega (arith, length-append (spelling lexeme) (text_of pieces)) in
-    let first : Token = record { lexeme = lexeme; at = at } in
-    ap (λ l. first ∷ l) (tokens_more (at + length (spelling lexeme)) pieces piece ∙ ap (λ n. tokens_from (at + length (spelling lexeme)) pieces ++ tokens_from n (piece ∷ [])) n)
+tokens_more : (at : ℕ) (pieces : List Piece) (piece : Piece) → tokens_from at (pieces ++ piece ∷ []) ≡ tokens_from at pieces ++ token_of (at + length (text_of pieces)) piece
+tokens_more at [] piece = let e : at + 0 ≡ at = omega arith in append-nil (token_of at piece) ∙ ap (λ n. token_of n piece) (sym e)
+tokens_more at (first ∷ pieces) piece =
+    let step = at + length (piece_text first) in
+    let n : step + length (text_of pieces) ≡ at + length (piece_text first ++ text_of pieces) = omega (arith, length-append (piece_text first) (text_of pieces)) in
+    ap (λ l. token_of at first ++ l) (tokens_more step pieces piece ∙ ap (λ n. tokens_from step pieces ++ token_of n piece) n)
+    ∙ sym (append_assoc (token_of at first) (tokens_from step pieces) (token_of (at + length (piece_text first ++ text_of pieces)) piece))
 
 module _ {bytes left : List ℕ} {tokens : List Token} (before : Scanned bytes left tokens) where
   place : length (text_of before.pieces) ≡ length bytes - length left
@@ -40,14 +38,14 @@ module _ {bytes left : List ℕ} {tokens : List Token} (before : Scanned bytes l
   next_split : (rest : List ℕ) (piece : Piece) → Begins left rest piece → IsSplit (before.pieces ++ piece ∷ []) rest
   next_split rest piece begins = split_more before.pieces piece rest (subst (λ (l : List ℕ). IsSplit before.pieces l) begins.text before.split) begins.one
 
-no_tokens : (at : ℕ) (gap : Piece) → IsGap gap → tokens_from at (gap ∷ []) ≡ []
-no_tokens at (White byte) is = refl
-no_tokens at (Item lexeme) is = absurd is
+no_token_of : (at : ℕ) (gap : Piece) → IsGap gap → token_of at gap ≡ []
+no_token_of at (Item lexeme) is = absurd is
+no_token_of at _ is = refl
 
 -- a gap more
 pub scanned_gap : (bytes left rest : List ℕ) (tokens : List Token) → Scanned bytes left tokens → Skips left rest → Scanned bytes rest tokens
 scanned_gap bytes left rest tokens before skips =
-    let none = no_tokens (0 + length (text_of before.pieces)) skips.gap skips.is_gap in
+    let none = no_token_of (0 + length (text_of before.pieces)) skips.gap skips.is_gap in
     record {
       pieces = before.pieces ++ skips.gap ∷ [];
       text = next_text before rest skips.gap skips.begins;
@@ -66,7 +64,7 @@ scanned_item bytes left rest tokens lexeme at before begins is =
       text = next_text before rest (Item lexeme) begins;
       split = next_split before rest (Item lexeme) begins;
       listed = ap (λ l. l ++ record { lexeme = lexeme; at = at } ∷ []) before.listed
-          ∙ ap (λ n. tokens_from 0 before.pieces ++ tokens_from n (Item lexeme ∷ [])) (sym here) ∙ sym (tokens_more 0 before.pieces (Item lexeme));
+          ∙ ap (λ n. tokens_from 0 before.pieces ++ token_of n (Item lexeme)) (sym here) ∙ sym (tokens_more 0 before.pieces (Item lexeme));
     }
 
 pub scanned_none : (bytes : List ℕ) → Scanned bytes bytes []
@@ -91,10 +89,17 @@ raised : (from least end : ℕ) (tokens : List Token) → from ≤ least → Are
 raised from least end [] low are = tt
 raised from least end (token ∷ tokens) low are = (are.0, omega arith, are.2, are.3)
 
+-- the tokens behind a piece
+behind : (piece : Piece) (pieces : List Piece) (at end : ℕ) → at + length (piece_text piece ++ text_of pieces) ≤ end
+    → (at + length (piece_text piece) + length (text_of pieces) ≤ end → AreTokens (at + length (piece_text piece)) end (tokens_from (at + length (piece_text piece)) pieces))
+    → AreTokens at end (tokens_from (at + length (piece_text piece)) pieces)
+behind piece pieces at end within are =
+    raised at (at + length (piece_text piece)) end (tokens_from (at + length (piece_text piece)) pieces) (omega arith)
+    (are (omega (arith, length-append (piece_text piece) (text_of pieces))))
+
 -- the tokens of a split have their forms and places
 are_tokens : (pieces : List Piece) (at end : ℕ) → IsSplit pieces [] → at + length (text_of pieces) ≤ end → AreTokens at end (tokens_from at pieces)
 are_tokens [] at end split within = tt
-are_tokens (White byte ∷ pieces) at end split within = raised at (at + 1) end (tokens_from (at + 1) pieces) (omega arith) (are_tokens pieces (at + 1) end split.1 (omega arith))
 are_tokens (Item lexeme ∷ pieces) at end split within =
     let some = spelled lexeme split.0.0 in
     let both = length-append (spelling lexeme) (text_of pieces) in (
@@ -104,6 +109,10 @@ are_tokens (Item lexeme ∷ pieces) at end split within =
       raised (at + 1) (at + length (spelling lexeme)) end (tokens_from (at + length (spelling lexeme)) pieces) (omega arith)
           (are_tokens pieces (at + length (spelling lexeme)) end split.1 (omega arith)),
     )
+are_tokens (White byte ∷ pieces) at end split within = behind (White byte) pieces at end within (are_tokens pieces (at + 1) end split.1)
+are_tokens (LineComment body ∷ pieces) at end split within = behind (LineComment body) pieces at end within (are_tokens pieces (at + length (piece_text (LineComment body))) end split.1)
+are_tokens (BlockComment body ∷ pieces) at end split within = behind (BlockComment body) pieces at end within (are_tokens pieces (at + length (piece_text (BlockComment body))) end split.1)
+are_tokens (Skipped word body ∷ pieces) at end split within = behind (Skipped word body) pieces at end within (are_tokens pieces (at + length (piece_text (Skipped word body))) end split.1)
 
 pub lexes_tokens : (bytes : List ℕ) (tokens : List Token) → Lexes bytes tokens → AreTokens 0 (length bytes) tokens
 lexes_tokens bytes tokens lexes =
@@ -111,7 +120,7 @@ lexes_tokens bytes tokens lexes =
 
 -- the scan stops
 pub scanned_breaks : (bytes left : List ℕ) (tokens : List Token) (at : ℕ) → Scanned bytes left tokens → left ≢ [] → at ≡ length bytes - length left
-    → ((gap : Piece) (more : List ℕ) → IsGap gap → Begins left more gap → ⊥) → ((lexeme : Lexeme) (more : List ℕ) → Begins left more (Item lexeme) → ⊥) → BreaksAt bytes at
+    → ((gap : Piece) (more : List ℕ) → IsGap gap → Begins left more gap → ⊥) → BeginsNoToken left → BreaksAt bytes at
 scanned_breaks bytes left tokens at before some is no_gap no_token = record {
   pieces = before.pieces;
   rest = left;
@@ -122,10 +131,19 @@ scanned_breaks bytes left tokens at before some is no_gap no_token = record {
   breaks = none;
 } where
   none : (piece : Piece) (more : List ℕ) → Begins left more piece → ⊥
-  none (White byte) more begins = no_gap (White byte) more tt begins
   none (Item lexeme) more begins = no_token lexeme more begins
+  none (White byte) more begins = no_gap (White byte) more tt begins
+  none (LineComment body) more begins = no_gap (LineComment body) more tt begins
+  none (BlockComment body) more begins = no_gap (BlockComment body) more tt begins
+  none (Skipped word body) more begins = no_gap (Skipped word body) more tt begins
 
 -- a piece leaves less
 pub begins_shorter : (bytes rest : List ℕ) (piece : Piece) → Begins bytes rest piece → length rest < length bytes
 begins_shorter bytes rest (White byte) begins = omega (arith, ap length begins.text)
+begins_shorter bytes rest (LineComment body) begins = omega (arith, ap length begins.text, length-append body rest)
+begins_shorter bytes rest (BlockComment body) begins = omega (arith, ap length begins.text, length-append (body ++ 42 ∷ 47 ∷ []) rest)
+begins_shorter bytes rest (Skipped word body) begins = omega (arith, ap length begins.text, length-append (word ++ body) rest)
 begins_shorter bytes rest (Item lexeme) begins = omega (arith, ap length begins.text, length-append (spelling lexeme) rest, spelled lexeme begins.one.0)
+
+pub skips_shorter : (bytes rest : List ℕ) → Skips bytes rest → length rest < length bytes
+skips_shorter bytes rest skips = begins_shorter bytes rest skips.gap skips.begins

@@ -69,6 +69,12 @@ listed (other ∷ words) word is =
     elim (bytes_eq other word) as (λ b. bytes_eq other word ≡ b → (b || is_in words word) ≡ true → (word ≡ other) ⊎ IsOneOf word words)
     [ true ↦ λ t e. inl (sym ((bytes_eq-Decides other word).0 t)) | false ↦ λ t e. inr (listed words word e) ] refl is
 
+pub is_listed : (words : List (List ℕ)) (word : List ℕ) → IsOneOf word words → is_in words word ≡ true
+is_listed [] word is = absurd is
+is_listed (other ∷ words) word (inl same) = rw ((bytes_eq-Decides other word).1 (sym same)) refl
+is_listed (other ∷ words) word (inr is) =
+    elim (bytes_eq other word) as (λ b. (b || is_in words word) ≡ true) [ true ↦ refl | false ↦ is_listed words word is ]
+
 pub not_listed : (words : List (List ℕ)) (word : List ℕ) → is_in words word ≡ false → IsNew word words
 not_listed [] word is = tt
 not_listed (other ∷ words) word is =

@@ -1,48 +1,38 @@
 ghost use Rattle.std.specs.Prelude.{◌≡◌, ◌≤◌, ◌+◌, ◌-◌, ◌^◌, ◌++◌, ◌∷◌, [], length, IfOk, IfSome, IfNone, List, ℕ, OnOk};
 ghost use Rattle.lz_base.specs.declared.rule.Rule.TheVariants.{E2};
-ghost use Rattle.v_syntax.specs.Tokens as tokens;
 ghost use Rattle.v_syntax.specs.Tokens.{Piece, Begins, Lexes, BreaksAt};
 ghost use Rattle.v_syntax.specs.Tokens.Piece.{Item};
 ghost use Rattle.v_lexer.specs.Lexed.{IfFault};
-ghost use Rattle.v_lexer.specs.Scan.{IsGap, Skips};
+ghost use Rattle.v_lexer.specs.Scan.{BeginsNoToken};
 
+use crate::classes::{Kind, kind_of};
+use crate::gaps::after_gap;
 use crate::marks::mark;
-use crate::words::{begins_name, word};
+use crate::numbers::{based, decimal};
+use crate::words::{cast, word};
 use lz_base::{Fault, Items, OutOfMemory, Rule, Stop};
 use std::alloc::Global;
 use v_syntax::{Lexeme, Token, Tokens};
-
-fn is_white(byte: u8) -> bool
-    ensures { result ≡ tokens.is_white byte }
-{
-    byte == b' ' || byte == b'\t' || byte == b'\n' || byte == 12 || byte == b'\r'
-}
-
-// What follows the white space at the front.
-#[tactic(auto, using(crate::proofs::Steps::white_skips, crate::proofs::Steps::no_gap, crate::proofs::Steps::no_gap_at_end))]
-fn after_gap(bytes: &[u8]) -> Option<&[u8]>
-    ensures found { IfSome result (λ rest. Skips bytes.now rest.now) }
-    ensures none { IfNone result ((gap : Piece) (more : List ℕ) → IsGap gap → Begins bytes.now more gap → ⊥) }
-{
-    match bytes.split_first() {
-        Some((first, rest)) if is_white(*first) => Some(rest),
-        _ => None,
-    }
-}
 
 // The token at the front, and what follows it.
 #[tactic(auto, using(crate::proofs::Steps::no_token))]
 fn lexeme(alloc: Global, bytes: &[u8]) -> Result<Option<(Lexeme, &[u8])>, OutOfMemory>
     ensures found { IfOk result (λ o. IfSome o (λ f. Begins bytes.now f.1.now (Item f.0))) }
-    ensures none { IfOk result (λ o. IfNone o ((lexeme : Lexeme) (more : List ℕ) → Begins bytes.now more (Item lexeme) → ⊥)) }
+    ensures none { IfOk result (λ o. IfNone o (BeginsNoToken bytes.now)) }
 {
-    if begins_name(bytes) {
-        let found = word(alloc, bytes)?;
-        return Ok(Some(found));
-    }
-    match mark(bytes) {
-        Some((mark, rest)) => Ok(Some((Lexeme::Mark(mark), rest))),
-        None => Ok(None),
+    match kind_of(bytes) {
+        Kind::Word => {
+            let found = word(alloc, bytes)?;
+            Ok(Some(found))
+        }
+        Kind::Decimal => {
+            let found = decimal(alloc, bytes)?;
+            Ok(Some(found))
+        }
+        Kind::Based => based(alloc, bytes),
+        Kind::Cast => Ok(cast(bytes)),
+        Kind::Other => Ok(mark(bytes)),
+        Kind::White | Kind::Slash | Kind::Backquote | Kind::End => Ok(None),
     }
 }
 

@@ -4,8 +4,11 @@
 //! list of the file, or names the byte at which no token, white space or comment begins.
 #![tactic(auto)]
 
+mod classes;
+mod gaps;
 mod lexing;
 mod marks;
+mod numbers;
 #[cfg(test)]
 mod tests;
 mod words;

@@ -1,10 +1,11 @@
 ghost use Rattle.std.specs.Prelude.{◌≡◌, ◌≢◌, ◌++◌, map, IfSome, IfNone, List, ℕ, IsFalse, false};
-ghost use Rattle.v_syntax.specs.Tokens.{mark_spelling, Begins};
+ghost use Rattle.v_syntax.specs.Tokens.{Begins};
 ghost use Rattle.v_syntax.specs.Tokens.Piece.{Item};
 ghost use Rattle.v_lexer.specs.Scan as scan;
-ghost use Rattle.v_syntax.specs.declared.token.Lexeme.TheVariants as lexeme;
+ghost use Rattle.v_lexer.specs.Scan.{BeginsNoToken};
 
-use v_syntax::Mark;
+use crate::classes::Kind;
+use v_syntax::{Lexeme, Mark};
 
 // Longer ones first, so that the first that fits is the longest.
 const MARKS: [(&[u8], Mark); 38] = [
@@ -69,15 +70,16 @@ fn listed_mark(bytes: &[u8]) -> Option<(Mark, usize)>
 }
 
 /// The mark at the front, and what follows it.
-#[tactic(auto, using(crate::proofs::Steps::mark_begins, crate::proofs::Steps::mark_within, crate::proofs::MarkForms::no_mark))]
-pub fn mark(bytes: &[u8]) -> Option<(Mark, &[u8])>
-    ensures found { IfSome result (λ f. Begins bytes.now f.1.now (Item (lexeme.Mark f.0))) }
-    ensures none { IfNone result ((mark : Mark) (more : List ℕ) → bytes.now ≢ mark_spelling mark ++ more) }
+#[tactic(auto, using(crate::proofs::Steps::mark_begins, crate::proofs::Steps::mark_within, crate::proofs::Steps::no_mark_token))]
+pub fn mark(bytes: &[u8]) -> Option<(Lexeme, &[u8])>
+    requires { scan.kind_of bytes.now ≡ Kind.Other }
+    ensures found { IfSome result (λ f. Begins bytes.now f.1.now (Item f.0)) }
+    ensures none { IfNone result (BeginsNoToken bytes.now) }
 {
     match listed_mark(bytes) {
         Some((mark, length)) => {
             let (_, rest) = bytes.split_at(length);
-            Some((mark, rest))
+            Some((Lexeme::Mark(mark), rest))
         }
         None => None,
     }

@@ -1,7 +1,7 @@
 use crate::lex;
 use lz_base::{Fault, Rule, Stop};
 use std::alloc::Global;
-use v_syntax::{Keyword, Lexeme, Mark, Tokens};
+use v_syntax::{Cast, Keyword, Lexeme, Mark, Tokens};
 
 // A token as a test writes it.
 #[derive(Drop)]
@@ -9,6 +9,9 @@ enum Want<'a> {
     Name(&'a str),
     Word(Keyword),
     Reserved(&'a str),
+    Cast(Cast),
+    Decimal(&'a str),
+    Based(&'a str),
     Mark(Mark),
 }
 
@@ -17,6 +20,9 @@ fn is_wanted(lexeme: &Lexeme, want: &Want) -> bool {
         (Lexeme::Identifier(name), Want::Name(text)) => name.bytes() == text.as_bytes(),
         (Lexeme::Keyword(word), Want::Word(wanted)) => *word == *wanted,
         (Lexeme::Reserved(name), Want::Reserved(text)) => name.bytes() == text.as_bytes(),
+        (Lexeme::Cast(cast), Want::Cast(wanted)) => *cast == *wanted,
+        (Lexeme::Decimal(bytes), Want::Decimal(text)) => bytes.as_slice() == text.as_bytes(),
+        (Lexeme::Based(bytes), Want::Based(text)) => bytes.as_slice() == text.as_bytes(),
         (Lexeme::Mark(mark), Want::Mark(wanted)) => *mark == *wanted,
         _ => false,
     }
@@ -89,16 +95,87 @@ fn tokens(rt: HostRuntime) {
 }
 
 #[test]
+fn numbers_and_casts(rt: HostRuntime) {
+    let alloc = rt.alloc();
+    let numbers = [
+        (0, Want::Decimal("8_")),
+        (2, Want::Based("'sHf_X")),
+        (9, Want::Decimal("1")),
+        (10, Want::Based("'b \n 1?")),
+        (17, Want::Name("a")),
+        (19, Want::Based("'D?__")),
+        (24, Want::Decimal("1")),
+        (26, Want::Based("'o7")),
+        (29, Want::Decimal("8")),
+        (31, Want::Cast(Cast::Unsigned)),
+        (41, Want::Cast(Cast::Signed)),
+        (48, Want::Mark(Mark::OpenParen)),
+    ];
+    assert!(rt;
+        lexes(
+            alloc,
+            "8_'sHf_X 1'b \n 1?a 'D?__1 'o78 $unsigned $signed(",
+            &numbers
+        )
+    );
+    let question = [
+        (0, Want::Based("'b1")),
+        (4, Want::Mark(Mark::Question)),
+        (5, Want::Name("a")),
+    ];
+    assert!(rt; lexes(alloc, "'b1 ?a", &question));
+}
+
+#[test]
+fn comments_and_skipped_lines(rt: HostRuntime) {
+    let alloc = rt.alloc();
+    let one = [(9, Want::Word(Keyword::Module))];
+    assert!(rt; lexes(alloc, "/*/ x */ module", &one));
+    let end = [
+        (0, Want::Word(Keyword::End)),
+        (26, Want::Word(Keyword::End)),
+    ];
+    assert!(rt;
+        lexes(
+            alloc,
+            "end/**/`timescale é /*\r\n end// é /*",
+            &[
+                (0, Want::Word(Keyword::End)),
+                (26, Want::Word(Keyword::End))
+            ]
+        )
+    );
+    assert!(rt; lexes(alloc, "end `default_nettype none\nend // `timescale", &end));
+    assert!(rt; lexes(alloc, "`timescale", &[]));
+    assert!(rt; lexes(alloc, "/* /* **/ // */", &[]));
+}
+
+#[test]
 fn bytes_that_begin_nothing(rt: HostRuntime) {
     let alloc = rt.alloc();
-    for (text, place) in [
+    let table = [
         ("module t; % endmodule", 10),
+        ("module t; /* x", 10),
+        ("module t; é endmodule", 10),
         ("\x0b", 0),
         ("a\0", 1),
-        ("module t; é", 10),
         ("\\a ", 0),
         ("x \"y\"", 2),
-    ] {
+        ("a / b", 2),
+        ("/*/ module t; endmodule", 0),
+        ("` timescale\nmodule t; endmodule", 0),
+        ("`timescale$ 1\nmodule t; endmodule", 0),
+        ("`define x", 0),
+        ("module t(output y); assign y = 1'b/**/1; endmodule", 32),
+        ("module t(output y); assign y = 1'b_1; endmodule", 32),
+        ("4'b2", 1),
+        ("4'd", 1),
+        ("4'ss1", 1),
+        ("$signed_", 0),
+        ("$ signed", 0),
+        ("a$b $c", 4),
+    ];
+    for (text, place) in table {
         assert!(rt; breaks(alloc, text, place), "{text}");
     }
 }

@@ -1,13 +1,14 @@
 ghost use Rattle.std.specs.Prelude.{◌≡◌, ◌≢◌, ◌+◌, ◌≤◌, false, length, map, IfOk, IfSome, IfNone, IsTrue, IsFalse, ℕ};
-ghost use Rattle.lz_base.specs.Names as names;
 ghost use Rattle.lz_base.specs.Names.{is_name, IsNew};
-ghost use Rattle.v_syntax.specs.Tokens.{keyword_spelling, unused_words, IsOneOf, HasForm, spelling, Begins};
+ghost use Rattle.v_syntax.specs.Tokens.{keyword_spelling, cast_spelling, unused_words, IsOneOf, HasForm, spelling, Begins};
 ghost use Rattle.v_syntax.specs.Tokens.Piece.{Item};
 ghost use Rattle.v_lexer.specs.Scan as scan;
+ghost use Rattle.v_lexer.specs.Scan.{BeginsNoToken};
 
+use crate::classes::{Class, Kind, split};
 use lz_base::{Name, OutOfMemory};
 use std::alloc::Global;
-use v_syntax::{Keyword, Lexeme};
+use v_syntax::{Cast, Keyword, Lexeme};
 
 const KEYWORDS: [(&[u8], Keyword); 20] = [
     (b"module", Keyword::Module),
@@ -82,51 +83,6 @@ const UNUSED_WORDS: [&[u8]; 46] = [
     b"edge",
 ];
 
-fn is_name_start(byte: u8) -> bool
-    ensures { result ≡ names.is_name_start byte }
-{
-    (97 <= byte && byte <= 122) || (65 <= byte && byte <= 90) || byte == b'_'
-}
-
-fn is_name_byte(byte: u8) -> bool
-    ensures { result ≡ names.is_name_byte byte }
-{
-    is_name_start(byte) || (48 <= byte && byte <= 57) || byte == b'$'
-}
-
-pub fn begins_name(bytes: &[u8]) -> bool
-    ensures { result ≡ scan.begins_name bytes.now }
-{
-    match bytes.split_first() {
-        Some((first, _)) => is_name_start(*first),
-        None => false,
-    }
-}
-
-// What is left behind the bytes of a name.
-fn after_name(bytes: &[u8]) -> &[u8]
-    ensures { result.now ≡ scan.rest_of names.is_name_byte bytes.now }
-{
-    let mut left = bytes;
-    while let Some((first, rest)) = left.split_first() {
-        if !is_name_byte(*first) {
-            break;
-        }
-        left = rest;
-    }
-    left
-}
-
-// The word at the front, and what follows it.
-#[tactic(auto, using(crate::proofs::Runs::front_is_taken, crate::proofs::Runs::rest_fits))]
-fn split_word(bytes: &[u8]) -> (&[u8], &[u8])
-    ensures word { result.0.now ≡ scan.front_of names.is_name_byte bytes.now }
-    ensures rest { result.1.now ≡ scan.rest_of names.is_name_byte bytes.now }
-{
-    let rest = after_name(bytes);
-    (&bytes[..bytes.len() - rest.len()], rest)
-}
-
 fn keyword_in(mut table: &[(&[u8], Keyword)], word: &[u8]) -> Option<Keyword>
     ensures { result ≡ scan.keyword_in (map (λ k. (k.0.now, k.1)) table.entry.now) word.now }
 {
@@ -155,7 +111,8 @@ fn keyword(word: &[u8]) -> Option<Keyword>
     listed_keyword(word)
 }
 
-fn is_in(mut words: &[&[u8]], word: &[u8]) -> bool
+/// Whether the word is one of these.
+pub fn is_in(mut words: &[&[u8]], word: &[u8]) -> bool
     ensures { result ≡ scan.is_in (map (λ w. w.now) words.entry.now) word.now }
 {
     while let [other, rest @ ..] = words {
@@ -200,11 +157,39 @@ fn word_lexeme(alloc: Global, word: &[u8]) -> Result<Lexeme, OutOfMemory>
 }
 
 /// The identifier or reserved word at the front, and what follows it.
-#[tactic(auto, using(crate::proofs::Steps::front_is_name, crate::proofs::Steps::word_begins))]
+#[tactic(auto, using(crate::proofs::Steps::front_is_name))]
 pub fn word(alloc: Global, bytes: &[u8]) -> Result<(Lexeme, &[u8]), OutOfMemory>
-    requires { IsTrue (scan.begins_name bytes.now) }
+    requires { scan.kind_of bytes.now ≡ Kind.Word }
     ensures { IfOk result (λ f. Begins bytes.now f.1.now (Item f.0)) }
 {
-    let (word, rest) = split_word(bytes);
+    let (word, rest) = split(Class::Name, bytes);
     Ok((word_lexeme(alloc, word)?, rest))
+}
+
+// The system function that the word spells.
+#[tactic(auto, unfolding(v_syntax::specs::Tokens::cast_spelling))]
+fn cast_of(word: &[u8]) -> Option<Cast>
+    ensures found { IfSome result (λ c. word.now ≡ cast_spelling c) }
+    ensures none { IfNone result ((c : Cast) → word.now ≢ cast_spelling c) }
+{
+    if word == b"$signed".as_slice() {
+        Some(Cast::Signed)
+    } else if word == b"$unsigned".as_slice() {
+        Some(Cast::Unsigned)
+    } else {
+        None
+    }
+}
+
+/// The system function at the front, and what follows it.
+pub fn cast(bytes: &[u8]) -> Option<(Lexeme, &[u8])>
+    requires { scan.kind_of bytes.now ≡ Kind.Cast }
+    ensures found { IfSome result (λ f. Begins bytes.now f.1.now (Item f.0)) }
+    ensures none { IfNone result (BeginsNoToken bytes.now) }
+{
+    let (word, rest) = split(Class::Name, bytes);
+    match cast_of(word) {
+        Some(cast) => Some((Lexeme::Cast(cast), rest)),
+        None => None,
+    }
 }

@@ -1,3 +1,6 @@
 pub mod Small
 pub mod Tokens
-pub mod SmallText
+pub mod Rule
+pub mod Grammar
+pub mod StmtGrammar
+pub mod ModuleGrammar

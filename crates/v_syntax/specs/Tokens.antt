@@ -1,6 +1,7 @@
 -- The tokens of a source text. After IEEE Std 1364-2005, clause 3.
-use Rattle.std.specs.Prelude.{◌≡◌, ◌≢◌, ◌≤◌, ◌<◌, ◌+◌, ◌^◌, ◌⊎◌, ◌==◌, ◌||◌, ⊤, ℕ, Bool, IsTrue, List, [], ◌∷◌, ◌++◌, length, codes}
-use Rattle.lz_base.specs.Names.{is_name, IsNew}
+use Rattle.std.specs.Prelude.{◌≡◌, ◌≢◌, ◌≤◌, ◌<◌, ◌+◌, ◌^◌, ◌⊎◌, ◌==◌, ◌||◌, ◌&&◌, not, if◌then◌else◌, ⊤, ℕ, Bool, true, false, IsTrue, List, [], ◌∷◌, ◌++◌, length, codes}
+use Rattle.std.specs.List.{list_all}
+use Rattle.lz_base.specs.Names.{is_name, is_name_byte, is_between, IsNew}
 use Rattle.v_syntax.specs.declared.token.Token.{Token}
 use Rattle.v_syntax.specs.declared.token.Lexeme.{Lexeme}
 use Rattle.v_syntax.specs.declared.token.Lexeme.TheVariants as l
@@ -109,48 +110,172 @@ spelling (l.Decimal bytes) = bytes
 spelling (l.Based bytes) = bytes
 spelling (l.Mark mark) = mark_spelling mark
 
--- The bytes have the form of the kind (3.7). Casts and numbers are not read yet.
+-- ---- numbers (3.5.1)
+
+-- x, z or ?, which stands for z (3.5.1)
+abbrev pub is_unknown_digit : ℕ → Bool
+is_unknown_digit byte = byte == 120 || byte == 88 || byte == 122 || byte == 90 || byte == 63
+
+-- the letters of the bases 2, 8, 10 and 16
+abbrev pub is_binary : ℕ → Bool
+is_binary letter = letter == 98 || letter == 66
+
+abbrev pub is_octal : ℕ → Bool
+is_octal letter = letter == 111 || letter == 79
+
+abbrev pub is_decimal : ℕ → Bool
+is_decimal letter = letter == 100 || letter == 68
+
+abbrev pub is_hexadecimal : ℕ → Bool
+is_hexadecimal letter = letter == 104 || letter == 72
+
+abbrev pub is_base : ℕ → Bool
+is_base letter = is_binary letter || is_octal letter || is_decimal letter || is_hexadecimal letter
+
+abbrev pub is_digit : ℕ → Bool
+is_digit byte = is_between 48 57 byte
+
+-- a digit of the base; of base 16 where it is none of the other letters
+abbrev pub is_known_digit_of : ℕ → ℕ → Bool
+is_known_digit_of base byte =
+    if is_binary base then is_between 48 49 byte else (if is_octal base then is_between 48 55 byte else (if is_decimal base then is_digit byte
+    else is_digit byte || is_between 97 102 byte || is_between 65 70 byte))
+
+-- a digit of the base, or x, z or ?
+abbrev pub is_digit_of : ℕ → ℕ → Bool
+is_digit_of base byte = is_unknown_digit byte || is_known_digit_of base byte
+
+-- What may stand behind the first digit: underscores, and more digits. In base 10 x, z and ? stand alone.
+abbrev pub is_later_digit : ℕ → ℕ → ℕ → Bool
+is_later_digit base first byte = byte == 95 || (if is_decimal base then is_digit first && is_digit byte else is_digit_of base byte)
+
+abbrev pub are_digits : ℕ → List ℕ → Bool
+are_digits base [] = false
+are_digits base (first ∷ bytes) = is_digit_of base first && list_all (is_later_digit base first) bytes
+
+-- a decimal digit or an underscore
+abbrev pub is_decimal_byte : ℕ → Bool
+is_decimal_byte byte = is_digit byte || byte == 95
+
+-- a decimal number without a base
+abbrev pub is_plain : List ℕ → Bool
+is_plain [] = false
+is_plain (first ∷ bytes) = is_digit first && list_all is_decimal_byte bytes
+
+-- nothing, or the letter of a signed number
+abbrev pub is_sign : List ℕ → Bool
+is_sign [] = true
+is_sign (letter ∷ []) = letter == 115 || letter == 83
+is_sign (letter ∷ more ∷ bytes) = false
+
+-- The base and digits of a number: an apostrophe, a sign or none, the base's letter, white space or none, digits.
+pub record IsBased (bytes : List ℕ) : Type 0 where
+  pub sign : List ℕ
+  pub base : ℕ
+  pub space : List ℕ
+  pub digits : List ℕ
+  pub spelled : bytes ≡ 39 ∷ sign ++ base ∷ space ++ digits
+  pub has_sign : IsTrue (is_sign sign)
+  pub has_base : IsTrue (is_base base)
+  pub has_space : IsTrue (list_all is_white space)
+  pub has_digits : IsTrue (are_digits base digits)
+
+-- ---- tokens and what stands between them
+
+-- the bytes have the form of the kind (3.7; of numbers 3.5)
 abbrev pub HasForm : Lexeme → Type 0
 HasForm (l.Identifier name) = IsTrue (is_name name) × ((word : Keyword) → name ≢ keyword_spelling word) × IsNew name unused_words
 HasForm (l.Keyword word) = ⊤
 HasForm (l.Reserved word) = IsOneOf word unused_words
-HasForm (l.Cast sign) = ⊥
-HasForm (l.Decimal bytes) = ⊥
-HasForm (l.Based bytes) = ⊥
+HasForm (l.Cast sign) = ⊤
+HasForm (l.Decimal bytes) = IsTrue (is_plain bytes)
+HasForm (l.Based bytes) = IsBased bytes
 HasForm (l.Mark mark) = ⊤
 
--- a white space byte or a token
+-- the next byte, where there is one, does not pass
+abbrev pub stops : (ℕ → Bool) → List ℕ → Bool
+stops test [] = true
+stops test (byte ∷ bytes) = not (test byte)
+
+-- no longer prefix of this token's bytes and the rest is a token
+abbrev pub IsLongest : Lexeme → List ℕ → Type 0
+IsLongest lexeme rest =
+    (other : Lexeme) (more : List ℕ) → HasForm other → spelling lexeme ++ rest ≡ spelling other ++ more
+    → length (spelling other) ≤ length (spelling lexeme)
+
+-- the name of a system function is a whole word (3.7.3)
+abbrev pub IsWhole : Lexeme → List ℕ → Type 0
+IsWhole (l.Identifier name) rest = ⊤
+IsWhole (l.Keyword word) rest = ⊤
+IsWhole (l.Reserved word) rest = ⊤
+IsWhole (l.Cast sign) rest = IsTrue (stops is_name_byte rest)
+IsWhole (l.Decimal bytes) rest = ⊤
+IsWhole (l.Based bytes) rest = ⊤
+IsWhole (l.Mark mark) rest = ⊤
+
+-- A piece of a text: a white space byte, a comment of one line or of a block (3.3), a skipped directive with the rest of its line
+-- (19.2, 19.8), or a token.
 pub data Piece : Type 0 where
   White : ℕ → Piece
+  LineComment : List ℕ → Piece
+  BlockComment : List ℕ → Piece
+  Skipped : List ℕ → List ℕ → Piece
   Item : Lexeme → Piece
 
 abbrev pub piece_text : Piece → List ℕ
 piece_text (White byte) = byte ∷ []
+piece_text (LineComment body) = 47 ∷ 47 ∷ body
+piece_text (BlockComment body) = 47 ∷ 42 ∷ body ++ 42 ∷ 47 ∷ []
+piece_text (Skipped word body) = 96 ∷ word ++ body
 piece_text (Item lexeme) = spelling lexeme
 
 abbrev pub text_of : List Piece → List ℕ
 text_of [] = []
 text_of (piece ∷ pieces) = piece_text piece ++ text_of pieces
 
--- no longer prefix of this token's bytes and the rest is a token
-abbrev pub IsLongest : Lexeme → List ℕ → Type 0
-IsLongest lexeme rest = (other : Lexeme) (more : List ℕ) → HasForm other → spelling lexeme ++ rest ≡ spelling other ++ more → length (spelling other) ≤ length (spelling lexeme)
+-- a byte of a line: any but LF
+abbrev pub is_in_line : ℕ → Bool
+is_in_line byte = not (byte == 10)
+
+abbrev pub begins_slash : List ℕ → Bool
+begins_slash [] = false
+begins_slash (byte ∷ bytes) = byte == 47
+
+-- nowhere in the body stands the end of a block comment
+abbrev pub is_open : List ℕ → Bool
+is_open [] = true
+is_open (byte ∷ bytes) = not (byte == 42 && begins_slash bytes) && is_open bytes
+
+-- the directives whose lines are skipped (19.2, 19.8)
+unfoldable pub skipped_words : List (List ℕ)
+skipped_words = codes "timescale" ∷ codes "default_nettype" ∷ []
 
 -- this is a piece where the rest follows it
 abbrev pub IsPiece : Piece → List ℕ → Type 0
 IsPiece (White byte) rest = IsTrue (is_white byte)
-IsPiece (Item lexeme) rest = HasForm lexeme × IsLongest lexeme rest
+IsPiece (LineComment body) rest = IsTrue (list_all is_in_line body) × IsTrue (stops is_in_line rest)
+IsPiece (BlockComment body) rest = IsTrue (is_open body)
+IsPiece (Skipped word body) rest =
+    IsOneOf word skipped_words × IsTrue (stops is_name_byte body) × IsTrue (list_all is_in_line body) × IsTrue (stops is_in_line rest)
+IsPiece (Item lexeme) rest = HasForm lexeme × IsLongest lexeme rest × IsWhole lexeme rest
 
 -- each is a piece where the pieces behind it and then the rest follow
 abbrev pub IsSplit : List Piece → List ℕ → Type 0
 IsSplit [] rest = ⊤
 IsSplit (piece ∷ pieces) rest = IsPiece piece (text_of pieces ++ rest) × IsSplit pieces rest
 
+-- a piece's token, where it is one, at a place
+abbrev pub token_of : ℕ → Piece → List Token
+token_of at (White byte) = []
+token_of at (LineComment body) = []
+token_of at (BlockComment body) = []
+token_of at (Skipped word body) = []
+token_of at (Item lexeme) = record { lexeme = lexeme; at = at } ∷ []
+
 -- the tokens among the pieces of a text that begins at a place
 abbrev pub tokens_from : ℕ → List Piece → List Token
 tokens_from at [] = []
-tokens_from at (White byte ∷ pieces) = tokens_from (at + 1) pieces
-tokens_from at (Item lexeme ∷ pieces) = record { lexeme = lexeme; at = at } ∷ tokens_from (at + length (spelling lexeme)) pieces
+tokens_from at (piece ∷ pieces) = token_of at piece ++ tokens_from (at + length (piece_text piece)) pieces
 
 -- these are the tokens of the bytes
 pub record Lexes (bytes : List ℕ) (tokens : List Token) : Type 0 where

@@ -1,6 +1,6 @@
 use Rattle.std.proofs.Common.{◌<◌, ◌≢◌, ◌-◌, [], refl, arith, rules, length}
 use Rattle.std.proofs.lemmas.List.{nil_from_length}
-use Rattle.v_lexer.proofs.Scans.{begins_shorter, scanned_item, scanned_all, scanned_breaks, lexes_tokens}
+use Rattle.v_lexer.proofs.Scans.{begins_shorter, skips_shorter, scanned_gap, scanned_item, scanned_all, scanned_breaks, lexes_tokens}
 use Rattle.v_lexer.proofs.OneReading.{not_both}
 use Rattle.v_lexer.proofs.lexing.lex.Goals as goal
 
@@ -26,3 +26,8 @@ returns-in_default-2-clause-none c = λ ts lexes.
 
 pub new-requires-clause-tokens : goal.new-requires-clause-tokens
 new-requires-clause-tokens c = lexes_tokens _ _ (scanned_all _ _ _ c.loop-left.invariant.scanned (nil_from_length _ (grind arith)))
+
+pub loop-left-preserved-in-Some : goal.loop-left-preserved-in-Some
+loop-left-preserved-in-Some c =
+    let shorter : length c.in-Some.rest.now < length c.loop-left.left.now = skips_shorter _ _ c.in-Some.ensures.found in
+    record { scanned = scanned_gap _ _ _ _ c.loop-left.invariant.scanned c.in-Some.ensures.found; within = omega arith }

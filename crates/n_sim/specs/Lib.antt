@@ -1,0 +1,2 @@
+pub mod SimValue
+pub mod Views

@@ -1,0 +1,246 @@
+-- One line more keeps the form, and adds its spelling.
+use Rattle.std.proofs.Common.{◌≡◌, ℕ, ◌≤◌, ◌<◌, List, [], ◌∷◌, ◌++◌, length, flat_map, Bool, true, false, ◌&&◌, not, is_some, IsSome, Option, None, Some, refl, ap, sym, subst, ◌∙◌, append_assoc, append-nil}
+use Rattle.std.proofs.lemmas.List.Concat.{flat_map-cons, flat_map-append}
+use Rattle.lz_base.specs.declared.name.Port.{Port}
+use Rattle.lz_base.specs.Names.{IsName}
+use Rattle.n_cells.specs.declared.netlist.Flop.{Flop}
+use Rattle.n_cells.specs.declared.netlist.Stored.{Stored}
+use Rattle.n_cells.specs.declared.netlist.Stored.TheVariants as stored
+use Rattle.n_cells.specs.Netlist.{NetlistValue, HasShape, ReadsBelow, AllBelow, HaveShapes, HaveWidths, FillOutputs, FlopsBelow, OutputsBelow, HasClock}
+use Rattle.n_cells.specs.Text.{clock_line, input_line, flop_line, cell_line, output_line, output_lines}
+use Rattle.n_text.specs.Form.{bound, HasForm, PortsNamed, CellsBelow}
+use Rattle.n_text.specs.declared.line.Line.{Line}
+use Rattle.n_text.specs.declared.line.Line.TheVariants as line
+use Rattle.n_text.specs.Spelling.{HasFields, key_of, may_open, line_text}
+use Rattle.n_text.specs.Raw.{bare, with_line, next_of, none, is_end, body}
+
+both : (a b : Bool) → (a && b) ≡ true → (a ≡ true) × (b ≡ true)
+both true true e = (refl, refl)
+both true false e = cc
+both false b e = cc
+
+none_is : {A : Type 0} (xs : List A) → none xs ≡ true → xs ≡ []
+none_is [] e = refl
+none_is (x ∷ xs) e = cc
+
+no_clock : (c : Option (List ℕ)) → not (is_some c) ≡ true → c ≡ None
+no_clock None e = refl
+no_clock (Some c) e = cc
+
+a_clock : (c : Option (List ℕ)) → is_some c ≡ true → IsSome c
+a_clock None e = cc
+a_clock (Some c) e = refl
+
+named_more : (ps : List Port) (p : Port) → PortsNamed ps → IsName p.name → PortsNamed (ps ++ p ∷ [])
+named_more [] p h one = (one, tt)
+named_more (q ∷ qs) p h one = (h.0, named_more qs p h.1 one)
+
+widths_more : (ps : List Port) (p : Port) → HaveWidths ps → 1 ≤ p.width → p.width ≤ 128 → HaveWidths (ps ++ p ∷ [])
+widths_more [] p h low high = (low, high, tt)
+widths_more (q ∷ qs) p h low high = (h.0, h.1, widths_more qs p h.2 low high)
+
+flops_more : (high : ℕ) (fs : List Flop) (f : Flop) → FlopsBelow high fs → f.net < high → FlopsBelow high (fs ++ f ∷ [])
+flops_more high [] f h one = (one, tt)
+flops_more high (g ∷ gs) f h one = (h.0, flops_more high gs f h.1 one)
+
+clocked_more : (clock : Option (List ℕ)) (fs : List Flop) (f : Flop) → IsSome clock → HasClock clock (fs ++ f ∷ [])
+clocked_more clock [] f h = h
+clocked_more clock (g ∷ gs) f h = h
+
+clocked_first : (clock : Option (List ℕ)) (name : List ℕ) (fs : List Flop) → HasClock clock fs → HasClock (Some name) fs
+clocked_first clock name [] h = tt
+clocked_first clock name (f ∷ fs) h = refl
+
+shapes_more : (cs : List Stored) (c : Stored) → HaveShapes cs → HasShape c → HaveShapes (cs ++ c ∷ [])
+shapes_more [] c h one = (one, tt)
+shapes_more (d ∷ ds) c h one = (h.0, shapes_more ds c h.1 one)
+
+cells_more : (high : ℕ) (cs : List Stored) (c : Stored) → CellsBelow high cs → ReadsBelow high c → CellsBelow high (cs ++ c ∷ [])
+cells_more high [] c h one = (one, tt)
+cells_more high (d ∷ ds) c h one = (h.0, cells_more high ds c h.1 one)
+
+fill_more : (ps : List Port) (ns : List (List ℕ)) (p : Port) (n : List ℕ) → FillOutputs ps ns → length n ≡ p.width → FillOutputs (ps ++ p ∷ []) (ns ++ n ∷ [])
+fill_more [] [] p n h one = (one, tt)
+fill_more [] (m ∷ ms) p n h one = absurd h
+fill_more (q ∷ qs) [] p n h one = absurd h
+fill_more (q ∷ qs) (m ∷ ms) p n h one = (h.0, fill_more qs ms p n h.1 one)
+
+nets_more : (high : ℕ) (ns : List (List ℕ)) (n : List ℕ) → OutputsBelow high ns → AllBelow high n → OutputsBelow high (ns ++ n ∷ [])
+nets_more high [] n h one = (one, tt)
+nets_more high (m ∷ ms) n h one = (h.0, nets_more high ms n h.1 one)
+
+-- a line that may come keeps the form
+pub form_more : (n : NetlistValue) (l : Line) → HasForm n → may_open (next_of n) (key_of l) ≡ true → HasFields l → HasForm (with_line n l)
+form_more n (line.Clock name) h may f = record {
+  lines = record {
+    inputs = h.lines.inputs;
+    clocked = clocked_first n.clock name n.flops h.lines.clocked;
+    cells = h.lines.cells;
+    widths = h.lines.widths;
+    filled = h.lines.filled;
+  };
+  name = h.name;
+  clock = f;
+  inputs = h.inputs;
+  flops = h.flops;
+  cells = h.cells;
+  outputs = h.outputs;
+  nets = h.nets;
+}
+form_more n (line.Input p) h may f = record {
+  lines = record {
+    inputs = widths_more n.inputs p h.lines.inputs f.1 f.2;
+    clocked = h.lines.clocked;
+    cells = h.lines.cells;
+    widths = h.lines.widths;
+    filled = h.lines.filled;
+  };
+  name = h.name;
+  clock = h.clock;
+  inputs = named_more n.inputs p h.inputs f.0;
+  flops = h.flops;
+  cells = h.cells;
+  outputs = h.outputs;
+  nets = h.nets;
+}
+form_more n (line.Flop g) h may f = record {
+  lines = record {
+    inputs = h.lines.inputs;
+    clocked = clocked_more n.clock n.flops g (a_clock n.clock (both (is_some n.clock) _ may).0);
+    cells = h.lines.cells;
+    widths = h.lines.widths;
+    filled = h.lines.filled;
+  };
+  name = h.name;
+  clock = h.clock;
+  inputs = h.inputs;
+  flops = flops_more bound n.flops g h.flops f;
+  cells = h.cells;
+  outputs = h.outputs;
+  nets = h.nets;
+}
+form_more n (line.Cell c) h may f = record {
+  lines = record {
+    inputs = h.lines.inputs;
+    clocked = h.lines.clocked;
+    cells = shapes_more n.cells c h.lines.cells f.0;
+    widths = h.lines.widths;
+    filled = h.lines.filled;
+  };
+  name = h.name;
+  clock = h.clock;
+  inputs = h.inputs;
+  flops = h.flops;
+  cells = cells_more bound n.cells c h.cells f.1;
+  outputs = h.outputs;
+  nets = h.nets;
+}
+form_more n (line.Output p nets) h may f = record {
+  lines = record {
+    inputs = h.lines.inputs;
+    clocked = h.lines.clocked;
+    cells = h.lines.cells;
+    widths = widths_more n.outputs p h.lines.widths (subst (λ w. 1 ≤ w) (sym f.1) f.2) (subst (λ w. w ≤ 128) (sym f.1) f.3);
+    filled = fill_more n.outputs n.nets p nets h.lines.filled (sym f.1);
+  };
+  name = h.name;
+  clock = h.clock;
+  inputs = h.inputs;
+  flops = h.flops;
+  cells = h.cells;
+  outputs = named_more n.outputs p h.outputs f.0;
+  nets = nets_more bound n.nets nets h.nets f.4;
+}
+form_more n line.End h may f = h
+
+outputs_more : (ps : List Port) (ns : List (List ℕ)) (p : Port) (n : List ℕ) → FillOutputs ps ns → output_lines (ps ++ p ∷ []) (ns ++ n ∷ []) ≡ output_lines ps ns ++ output_line p n
+outputs_more [] [] p n h = append-nil (output_line p n)
+outputs_more [] (m ∷ ms) p n h = absurd h
+outputs_more (q ∷ qs) [] p n h = absurd h
+outputs_more (q ∷ qs) (m ∷ ms) p n h = ap (λ l. output_line q m ++ l) (outputs_more qs ms p n h.1) ∙ sym (append_assoc (output_line q m) (output_lines qs ms) (output_line p n))
+
+flat_more : {X : Type 0} (f : X → List ℕ) (xs : List X) (x : X) → flat_map f (xs ++ x ∷ []) ≡ flat_map f xs ++ f x
+flat_more f xs x = flat_map-append f xs (x ∷ []) ∙ ap (λ l. flat_map f xs ++ l) (flat_map-cons f x [] ∙ append-nil (f x))
+
+cell_text : (c : Stored) → cell_line c ≡ line_text (line.Cell c)
+cell_text (stored.Lut leaves table) = refl
+cell_text (stored.Carry a b c) = refl
+
+parts : Option (List ℕ) → List Port → List Flop → List Stored → List Port → List (List ℕ) → List ℕ
+parts clock ins fs cs ps ns = clock_line clock ++ flat_map input_line ins ++ flat_map flop_line fs ++ flat_map cell_line cs ++ output_lines ps ns
+
+cut_three : (x : List ℕ) → x ++ [] ++ [] ++ [] ≡ x
+cut_three x = append-nil (x ++ [] ++ []) ∙ append-nil (x ++ []) ∙ append-nil x
+
+cut_two : (x : List ℕ) → x ++ [] ++ [] ≡ x
+cut_two x = append-nil (x ++ []) ∙ append-nil x
+
+-- a part more, before parts that are empty
+in_part : (front part more line new old : List ℕ) → more ≡ part ++ line → new ≡ front ++ more → old ≡ front ++ part → new ≡ old ++ line
+in_part front part more line new old e f g = f ∙ ap (λ l. front ++ l) e ∙ sym (append_assoc front part line) ∙ ap (λ l. l ++ line) (sym g)
+
+clock_body : (name : List ℕ) (clock : Option (List ℕ)) (ins : List Port) (fs : List Flop) (cs : List Stored) (ps : List Port) (ns : List (List ℕ)) → clock ≡ None → ins ≡ [] → fs ≡ [] → cs ≡ []
+    → ps ≡ [] → parts (Some name) ins fs cs ps ns ≡ parts clock ins fs cs ps ns ++ line_text (line.Clock name)
+unfolding parts
+clock_body name clock ins fs cs ps ns a b d e f = rw (a, b, d, e, f) (cut_three (clock_line (Some name) ++ []) ∙ append-nil (clock_line (Some name)))
+
+input_body : (clock : Option (List ℕ)) (ins : List Port) (p : Port) (fs : List Flop) (cs : List Stored) (ps : List Port) (ns : List (List ℕ)) → fs ≡ [] → cs ≡ [] → ps ≡ []
+    → parts clock (ins ++ p ∷ []) fs cs ps ns ≡ parts clock ins fs cs ps ns ++ line_text (line.Input p)
+unfolding parts
+input_body clock ins p fs cs ps ns d e f =
+    rw (d, e, f) (in_part (clock_line clock) (flat_map input_line ins) (flat_map input_line (ins ++ p ∷ [])) (line_text (line.Input p)) _ _ (flat_more input_line ins p)
+    (cut_three (clock_line clock ++ flat_map input_line (ins ++ p ∷ []))) (cut_three (clock_line clock ++ flat_map input_line ins)))
+
+flop_body : (clock : Option (List ℕ)) (ins : List Port) (fs : List Flop) (g : Flop) (cs : List Stored) (ps : List Port) (ns : List (List ℕ)) → cs ≡ [] → ps ≡ []
+    → parts clock ins (fs ++ g ∷ []) cs ps ns ≡ parts clock ins fs cs ps ns ++ line_text (line.Flop g)
+unfolding parts
+flop_body clock ins fs g cs ps ns e f =
+    rw (e, f) (in_part (clock_line clock ++ flat_map input_line ins) (flat_map flop_line fs) (flat_map flop_line (fs ++ g ∷ [])) (line_text (line.Flop g)) _ _ (flat_more flop_line fs g)
+    (cut_two (clock_line clock ++ flat_map input_line ins ++ flat_map flop_line (fs ++ g ∷ []))) (cut_two (clock_line clock ++ flat_map input_line ins ++ flat_map flop_line fs)))
+
+cell_body : (clock : Option (List ℕ)) (ins : List Port) (fs : List Flop) (cs : List Stored) (c : Stored) (ps : List Port) (ns : List (List ℕ)) → ps ≡ []
+    → parts clock ins fs (cs ++ c ∷ []) ps ns ≡ parts clock ins fs cs ps ns ++ line_text (line.Cell c)
+unfolding parts
+cell_body clock ins fs cs c ps ns f =
+    rw f (in_part (clock_line clock ++ flat_map input_line ins ++ flat_map flop_line fs) (flat_map cell_line cs) (flat_map cell_line (cs ++ c ∷ [])) (line_text (line.Cell c)) _ _
+    (flat_more cell_line cs c ∙ ap (λ l. flat_map cell_line cs ++ l) (cell_text c))
+    (append-nil (clock_line clock ++ flat_map input_line ins ++ flat_map flop_line fs ++ flat_map cell_line (cs ++ c ∷ [])))
+    (append-nil (clock_line clock ++ flat_map input_line ins ++ flat_map flop_line fs ++ flat_map cell_line cs)))
+
+-- a line that may come adds its spelling
+pub body_more : (n : NetlistValue) (l : Line) → HasForm n → may_open (next_of n) (key_of l) ≡ true → is_end l ≡ false → body (with_line n l) ≡ body n ++ line_text l
+unfolding parts
+body_more n (line.Clock name) h may last =
+    let a = both (not (is_some n.clock)) _ may in
+    let b = both (none n.inputs) _ a.1 in
+    let d = both (none n.flops) _ b.1 in
+    let e = both (none n.cells) _ d.1 in
+    clock_body name n.clock n.inputs n.flops n.cells n.outputs n.nets (no_clock n.clock a.0) (none_is n.inputs b.0) (none_is n.flops d.0) (none_is n.cells e.0) (none_is n.outputs e.1)
+body_more n (line.Input p) h may last =
+    let d = both (none n.flops) _ may in
+    let e = both (none n.cells) _ d.1 in
+    input_body n.clock n.inputs p n.flops n.cells n.outputs n.nets (none_is n.flops d.0) (none_is n.cells e.0) (none_is n.outputs e.1)
+body_more n (line.Flop g) h may last =
+    let d = both (is_some n.clock) _ may in
+    let e = both (none n.cells) _ d.1 in
+    flop_body n.clock n.inputs n.flops g n.cells n.outputs n.nets (none_is n.cells e.0) (none_is n.outputs e.1)
+body_more n (line.Cell (stored.Lut leaves table)) h may last = cell_body n.clock n.inputs n.flops n.cells (stored.Lut leaves table) n.outputs n.nets (none_is n.outputs may)
+body_more n (line.Cell (stored.Carry a b c)) h may last = cell_body n.clock n.inputs n.flops n.cells (stored.Carry a b c) n.outputs n.nets (none_is n.outputs may)
+body_more n (line.Output p nets) h may last =
+    let front = clock_line n.clock ++ flat_map input_line n.inputs ++ flat_map flop_line n.flops ++ flat_map cell_line n.cells in
+    ap (λ l. front ++ l) (outputs_more n.outputs n.nets p nets h.lines.filled) ∙ sym (append_assoc front (output_lines n.outputs n.nets) (output_line p nets))
+body_more n line.End h may last = cc
+
+-- no line but the model's
+pub bare_form : (name : List ℕ) → IsName name → HasForm (bare name)
+bare_form name h =
+    record { lines = record { inputs = tt; clocked = tt; cells = tt; widths = tt; filled = tt }; name = h; clock = tt; inputs = tt; flops = tt; cells = tt; outputs = tt; nets = tt }
+
+-- a line keeps the model's name
+pub same_name : (n : NetlistValue) (l : Line) → (with_line n l).name ≡ n.name
+same_name n (line.Clock name) = refl
+same_name n (line.Input p) = refl
+same_name n (line.Flop f) = refl
+same_name n (line.Cell c) = refl
+same_name n (line.Output p nets) = refl
+same_name n line.End = refl

@@ -1,0 +1,10 @@
+use Rattle.std.proofs.Common.{◌≡◌, ◌≤◌, ◌+◌, ◌*◌, drop}
+use Rattle.n_cells.specs.Netlist.{HaveWidths, port_bits}
+use Rattle.n_text.proofs.counting.count_bits.Given as goal
+
+abbrev pub invariant-loop-port : goal.invariant-loop-port
+invariant-loop-port l = record {
+  widths : HaveWidths (drop l.port-index l.ports);
+  count : l.bits + port_bits (drop l.port-index l.ports) ≡ port_bits l.ports;
+  bound : l.bits ≤ 128 * l.port-index;
+}

@@ -1,0 +1,74 @@
+-- Where a netlist's text breaks the rule on references: the places of its wrong numbers and repeated names, in the order
+-- of the text. A place is counted in bytes, from 0.
+use Rattle.std.specs.Prelude.{ℕ, ◌+◌, List, [], ◌∷◌, ◌++◌, length, map, flat_map, Bool, false, ◌||◌, nat_lt, bytes_eq, if◌then◌else◌}
+use Rattle.std.specs.Option.{option_to_list}
+use Rattle.lz_base.specs.declared.name.Port.{Port}
+use Rattle.lz_lines.specs.Fields.{field, number}
+use Rattle.n_cells.specs.declared.netlist.Flop.{Flop}
+use Rattle.n_cells.specs.declared.netlist.Stored.{Stored}
+use Rattle.n_cells.specs.declared.netlist.Stored.TheVariants.{Lut, Carry}
+use Rattle.n_cells.specs.Netlist.{NetlistValue, net_count, first_net, nets_of}
+use Rattle.n_cells.specs.Text.{clock_line, input_line, flop_line, cell_line, output_line}
+use Rattle.n_text.specs.Raw.{model_line}
+
+-- Numbers that are not below a bound, in fields of which the first has its blank at this place.
+abbrev pub wrong_nets : ℕ → ℕ → List ℕ → List ℕ
+wrong_nets high at_ [] = []
+wrong_nets high at_ (n ∷ ns) = (if nat_lt n high then [] else (at_ + 1) ∷ []) ++ wrong_nets high (at_ + length (number n)) ns
+
+-- a name that is one of these
+abbrev pub is_among : List ℕ → List (List ℕ) → Bool
+is_among name [] = false
+is_among name (other ∷ names) = bytes_eq other name || is_among name names
+
+-- the place of a name that stands behind these, where it is one of them
+abbrev pub wrong_name : List (List ℕ) → ℕ → List ℕ → List ℕ
+wrong_name names at_ name = if is_among name names then at_ ∷ [] else []
+
+-- Lines of inputs behind these names, of which the first begins at this place: its name stands behind `input` and a blank.
+abbrev pub wrong_inputs : List (List ℕ) → ℕ → List Port → List ℕ
+wrong_inputs names at_ [] = []
+wrong_inputs names at_ (p ∷ ps) = wrong_name names (at_ + 6) p.name ++ wrong_inputs (names ++ p.name ∷ []) (at_ + length (input_line p)) ps
+
+-- Lines of flip-flops: the net stands behind `ff` and a bit, and is one of so many.
+abbrev pub wrong_flops : ℕ → ℕ → List Flop → List ℕ
+wrong_flops count at_ [] = []
+wrong_flops count at_ (f ∷ fs) = wrong_nets count (at_ + 4) (f.net ∷ []) ++ wrong_flops count (at_ + length (flop_line f)) fs
+
+-- The line of a cell whose first net has this number: each net that it reads is smaller.
+abbrev pub wrong_cell : ℕ → ℕ → Stored → List ℕ
+wrong_cell next at_ (Lut leaves table) = wrong_nets next (at_ + 3 + length (number (length leaves))) leaves
+wrong_cell next at_ (Carry a b c) = wrong_nets next (at_ + 5) (a ∷ b ∷ c ∷ [])
+
+abbrev pub wrong_cells : ℕ → ℕ → List Stored → List ℕ
+wrong_cells next at_ [] = []
+wrong_cells next at_ (c ∷ cs) = wrong_cell next at_ c ++ wrong_cells (next + nets_of c) (at_ + length (cell_line c)) cs
+
+-- Lines of outputs behind these names: each net is one of so many.
+abbrev pub wrong_outputs : List (List ℕ) → ℕ → ℕ → List Port → List (List ℕ) → List ℕ
+wrong_outputs names count at_ [] nets = []
+wrong_outputs names count at_ (p ∷ ps) [] = []
+wrong_outputs names count at_ (p ∷ ps) (ns ∷ more) =
+    wrong_name names (at_ + 7) p.name ++ wrong_nets count (at_ + 6 + length (field p.name)) ns
+    ++ wrong_outputs (names ++ p.name ∷ []) count (at_ + length (output_line p ns)) ps more
+
+-- the places at which the lines of each kind begin
+abbrev pub inputs_at : NetlistValue → ℕ
+inputs_at n = length (model_line n.name) + length (clock_line n.clock)
+
+abbrev pub flops_at : NetlistValue → ℕ
+flops_at n = inputs_at n + length (flat_map input_line n.inputs)
+
+abbrev pub cells_at : NetlistValue → ℕ
+cells_at n = flops_at n + length (flat_map flop_line n.flops)
+
+abbrev pub outputs_at : NetlistValue → ℕ
+outputs_at n = cells_at n + length (flat_map cell_line n.cells)
+
+-- all wrong numbers and repeated names
+abbrev pub wrong_places : NetlistValue → List ℕ
+wrong_places n =
+    wrong_inputs (option_to_list n.clock) (inputs_at n) n.inputs
+    ++ wrong_flops (net_count n) (flops_at n) n.flops
+    ++ wrong_cells (first_net n.inputs n.flops) (cells_at n) n.cells
+    ++ wrong_outputs (option_to_list n.clock ++ map (λ p. p.name) n.inputs) (net_count n) (outputs_at n) n.outputs n.nets

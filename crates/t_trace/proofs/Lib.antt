@@ -1,0 +1,3 @@
+pub mod Words
+pub mod LineEnds
+pub mod Cycles

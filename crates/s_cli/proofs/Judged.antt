@@ -1,9 +1,9 @@
 -- The status that the files call for.
-use Rattle.std.proofs.Common.{◌≡◌, ◌<◌, ◌≤◌, ℕ, ◌^◌, List, length, Option, None, Some, refl, sym, ap, subst, arith, inl, inr, ◌∙◌}
+use Rattle.std.proofs.Common.{◌≡◌, ◌<◌, ◌≤◌, ℕ, ◌^◌, List, length, Option, None, Some, refl, ap, subst, arith, inl, inr, ◌∙◌}
 use Rattle.lz_base.specs.Outside.{Told, Stands}
 use Rattle.lz_base.specs.Transfer.{StandsLonger}
 use Rattle.lz_base.specs.declared.fault.Fault.{Fault}
-use Rattle.lz_base.specs.declared.rule.Rule.TheVariants.{E1, E2, U1}
+use Rattle.lz_base.specs.declared.rule.Rule.TheVariants.{E1, E2}
 use Rattle.s_cli.specs.declared.status.Status.TheVariants as status
 use Rattle.v_syntax.specs.declared.token.Token.{Token}
 use Rattle.v_syntax.specs.Tokens.{Lexes, BreaksAt}
@@ -27,7 +27,8 @@ pub judged_long : (source : List ℕ) → 2 ^ 20 < length source → IsJudged so
 judged_long source longer = record {
   too_long = λ _. inl refl;
   unlexed = λ _ within _. absurd (omega arith);
-  unsupported = λ _ within _ _. absurd (omega arith);
+  unparsed = λ _ within _ _. absurd (omega arith);
+  unsupported = λ _ _ within _ _ _. absurd (omega arith);
   small = λ _ within _. absurd (omega arith);
 }
 
@@ -35,7 +36,8 @@ pub judged_done : OneReading → (source output : List ℕ) → IsTranslation so
 judged_done one source output t = record {
   too_long = λ longer. absurd (omega (arith, t.within));
   unlexed = λ at _ breaks. absurd (one.apart source t.spelled.tokens at t.spelled.lexed breaks);
-  unsupported = λ ts _ lexed none. absurd (none t.module_ (rw (one.tokens source ts t.spelled.tokens lexed t.spelled.lexed) t.spelled.small));
+  unparsed = λ ts _ lexed none. absurd (none t.spelled.module_ (rw (one.tokens source ts t.spelled.tokens lexed t.spelled.lexed) t.spelled.derived));
+  unsupported = λ ts _ _ lexed _ none. absurd (none t.module_ (rw (one.tokens source ts t.spelled.tokens lexed t.spelled.lexed) t.spelled.small));
   small = λ _ _ _. inl refl;
 }
 
@@ -47,13 +49,22 @@ judged_broken one source fault within (inl r) = record {
       let place : fault.at ≡ at = one.place source fault.at at r.breaks breaks in
       let same : fault ≡ record { rule = E2; at = at } = ap (λ r. record { rule = r; at = fault.at }) rule ∙ ap (λ a. record { rule = E2; at = a }) place in
       inl (ap (λ (f : Fault). status.Refused f) same);
-  unsupported = λ ts _ lexed _. absurd (one.apart source ts fault.at lexed r.breaks);
+  unparsed = λ ts _ lexed _. absurd (one.apart source ts fault.at lexed r.breaks);
+  unsupported = λ ts _ _ lexed _ _. absurd (one.apart source ts fault.at lexed r.breaks);
   small = λ s _ t. absurd (one.apart source t.tokens fault.at t.lexed r.breaks);
 }
-judged_broken one source fault within (inr r) = record {
+judged_broken one source fault within (inr (inl r)) = record {
   too_long = λ longer. absurd (omega arith);
   unlexed = λ at _ breaks. absurd (one.apart source r.tokens at r.lexed breaks);
-  unsupported = λ _ _ _ _. inl (ap (λ (f : Fault). status.Refused f) r.fault_is);
+  unparsed = λ ts _ lexed _. inl (fault, rw (one.tokens source ts r.tokens lexed r.lexed) r.refused, refl);
+  unsupported = λ ts m _ lexed derived _. absurd (r.refused.none m (rw (one.tokens source ts r.tokens lexed r.lexed) at derived));
+  small = λ s _ t. absurd (r.refused.none t.module_ (rw (one.tokens source t.tokens r.tokens t.lexed r.lexed) at t.derived));
+}
+judged_broken one source fault within (inr (inr r)) = record {
+  too_long = λ longer. absurd (omega arith);
+  unlexed = λ at _ breaks. absurd (one.apart source r.tokens at r.lexed breaks);
+  unparsed = λ ts _ lexed none. absurd (none r.module_ (rw (one.tokens source ts r.tokens lexed r.lexed) r.derived));
+  unsupported = λ _ _ _ _ _ _. inl (ap (λ (f : Fault). status.Refused f) r.fault_is);
   small = λ s _ t. absurd (r.none s (rw (one.tokens source r.tokens t.tokens r.lexed t.lexed) t.small));
 }
 

@@ -1,5 +1,5 @@
 -- The status that a netlist and a stimulus call for.
-use Rattle.std.proofs.Common.{◌≡◌, ◌⊎◌, ◌<◌, ◌≤◌, ℕ, ◌^◌, List, length, Option, None, Some, Result, Ok, Err, Vec, refl, sym, ap, subst, arith, inl, inr, ◌∙◌}
+use Rattle.std.proofs.Common.{◌≡◌, ◌⊎◌, ◌≤◌, ℕ, List, length, Option, None, Some, Ok, Err, Vec, refl, arith, inl, inr, ◌∙◌}
 use Rattle.std.specs.declared.alloc.Global.{Global}
 use Rattle.lz_base.specs.declared.fault.Stop.{Stop}
 use Rattle.lz_base.specs.declared.fault.Stop.TheVariants as stop
@@ -23,7 +23,7 @@ told_on None name P Q holds on = tt
 told_on (Some content) name P Q holds on = λ bytes is. on bytes (holds bytes is)
 
 pub judged_memory : (source : List ℕ) → IsJudged source status.OutOfMemory
-judged_memory source = record { too_long = λ _. inr refl; unlexed = λ _ _ _. inr refl; unsupported = λ _ _ _ _. inr refl; small = λ _ _ _. inr refl }
+judged_memory source = record { too_long = λ _. inr refl; unlexed = λ _ _ _. inr refl; unparsed = λ _ _ _ _. inr refl; unsupported = λ _ _ _ _ _ _. inr refl; small = λ _ _ _. inr refl }
 
 -- what is told of a file, whatever it is
 pub told_any : (told : Told) (name : List ℕ) (P : List ℕ → Type 0) → ((bytes : List ℕ) → P bytes) → IfTold told name P

@@ -1,5 +1,5 @@
 -- What the top call answers to each form of words.
-use Rattle.std.specs.Prelude.{◌≡◌, ◌⊎◌, ℕ, ◌^◌, ◌<◌, ◌≤◌, List, length, Option, None, Some, ⊤}
+use Rattle.std.specs.Prelude.{◌≡◌, ◌⊎◌, ℕ, ◌^◌, ◌<◌, ◌≤◌, List, length, None, Some, ⊤}
 use Rattle.lz_base.specs.Outside.{Told}
 use Rattle.lz_base.specs.WordValue.{WordValue}
 use Rattle.lz_base.specs.declared.fault.Fault.{Fault}
@@ -8,7 +8,10 @@ use Rattle.n_cells.specs.Netlist.{NetlistValue, IsWellFormed}
 use Rattle.n_cells.specs.Text.{text}
 use Rattle.n_text.specs.Form.{HasForm}
 use Rattle.v_syntax.specs.declared.small.SmallModule.{SmallModule}
+use Rattle.v_syntax.specs.declared.module.Module.{Module}
 use Rattle.v_syntax.specs.declared.token.Token.{Token}
+use Rattle.v_syntax.specs.ModuleGrammar.{Derives}
+use Rattle.v_parser.specs.Refusal as parser
 use Rattle.v_syntax.specs.Tokens.{Lexes, BreaksAt}
 use Rattle.v_syntax.specs.Small.{IsSmall}
 use Rattle.s_flow.specs.SmallText.{IsSmallText}
@@ -63,7 +66,9 @@ IsRefusal (simn netlist stimulus) told fault = IfTold told netlist (λ a. IfTold
 pub record IsJudged (source : List ℕ) (result : Status) : Type 0 where
   pub too_long : 2 ^ 20 < length source → IsUnlessMemory result (status.Refused (record { rule = E1; at = 2 ^ 20 }))
   pub unlexed : (at : ℕ) → length source ≤ 2 ^ 20 → BreaksAt source at → IsUnlessMemory result (status.Refused (record { rule = E2; at = at }))
-  pub unsupported : (tokens : List Token) → length source ≤ 2 ^ 20 → Lexes source tokens → ((s : SmallModule) → IsSmall tokens s → ⊥)
+  pub unparsed : (tokens : List Token) → length source ≤ 2 ^ 20 → Lexes source tokens → ((m : Module) → Derives tokens m → ⊥)
+      → IsRefusedUnlessMemory result (parser.IsRefused tokens (length source))
+  pub unsupported : (tokens : List Token) (m : Module) → length source ≤ 2 ^ 20 → Lexes source tokens → Derives tokens m → ((s : SmallModule) → IsSmall tokens s → ⊥)
       → IsUnlessMemory result (status.Refused (record { rule = U1; at = 0 }))
   pub small : (s : SmallModule) → length source ≤ 2 ^ 20 → IsSmallText source s → IsUnlessMemory result status.Ok
 

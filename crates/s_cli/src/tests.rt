@@ -71,7 +71,7 @@ fn texts_are_translated_or_refused(rt: HostRuntime) -> Result<(), Fail> {
         (INVERTED, Status::Ok, INVERTED_NETLIST, nothing),
         (TWO_REGISTERS, Status::Ok, TWO_REGISTERS_NETLIST, nothing),
         (ONE_WORD, Status::Ok, ONE_WORD_NETLIST, nothing),
-        (nothing, refused(Rule::U1, 0), nothing, unsupported),
+        (nothing, refused(Rule::E3, 0), nothing, b"error: E3 at 0\n"),
         (
             b"module t; % endmodule",
             refused(Rule::E2, 10),
@@ -99,9 +99,9 @@ fn texts_are_translated_or_refused(rt: HostRuntime) -> Result<(), Fail> {
         ),
         (
             b"module t(input c, input a, output reg q); always @(posedge c) q <= a; endmodule;",
-            refused(Rule::U1, 0),
+            refused(Rule::E3, 79),
             nothing,
-            unsupported,
+            b"error: E3 at 79\n",
         ),
     ];
     for (source, status, output, errors) in cases {
@@ -212,7 +212,7 @@ fn a_fault_of_the_errors_changes_no_status(rt: HostRuntime) -> Result<(), Fail> 
 #[test]
 fn long_sources_are_refused(rt: HostRuntime) -> Result<(), Fail> {
     let cases: [(usize, Rule, u64, &[u8]); 2] = [
-        (1048576, Rule::U1, 0, b"error: U1 at 0\n"),
+        (1048576, Rule::E3, 1048576, b"error: E3 at 1048576\n"),
         (1048577, Rule::E1, 1048576, b"error: E1 at 1048576\n"),
     ];
     for (length, rule, at, errors) in cases {

@@ -1,10 +1,13 @@
 -- What the front end answers.
-use Rattle.std.specs.Prelude.{◌≡◌, ◌⊎◌, ℕ, List, Result, Ok, Err, ⊤}
+use Rattle.std.specs.Prelude.{◌≡◌, ◌⊎◌, ℕ, List, length, Result, Ok, Err, ⊤}
 use Rattle.lz_base.specs.declared.fault.Stop.{Stop}
 use Rattle.lz_base.specs.declared.fault.Stop.TheVariants as stop
 use Rattle.lz_base.specs.declared.fault.Fault.{Fault}
 use Rattle.lz_base.specs.declared.rule.Rule.TheVariants.{E2, U1}
+use Rattle.v_syntax.specs.declared.module.Module.{Module}
 use Rattle.v_syntax.specs.declared.token.Token.{Token}
+use Rattle.v_syntax.specs.ModuleGrammar.{Derives}
+use Rattle.v_parser.specs.Refusal.{IsRefused}
 use Rattle.v_syntax.specs.declared.small.SmallModule.{SmallModule}
 use Rattle.v_syntax.specs.Tokens.{Lexes, BreaksAt}
 use Rattle.v_syntax.specs.Small.{IsSmall}
@@ -15,16 +18,43 @@ pub record IsUnlexed (bytes : List ℕ) (fault : Fault) : Type 0 where
   pub breaks : BreaksAt bytes fault.at
   pub rule_is : fault.rule ≡ E2
 
--- U1: the bytes have tokens, and these are those of no small module.
+-- E3: the bytes have tokens that derive no module, and no module's tokens begin with those up to this place.
+pub record IsUnparsed (bytes : List ℕ) (fault : Fault) : Type 0 where
+  pub tokens : List Token
+  pub lexed : Lexes bytes tokens
+  pub refused : IsRefused tokens (length bytes) fault
+
+-- U1: the bytes have tokens that derive a module, and they are those of no small one.
 pub record IsNotSmall (bytes : List ℕ) (fault : Fault) : Type 0 where
   pub tokens : List Token
   pub lexed : Lexes bytes tokens
+  pub module_ : Module
+  pub derived : Derives tokens module_
   pub none : (s : SmallModule) → IsSmall tokens s → ⊥
   pub fault_is : fault ≡ record { rule = U1; at = 0 }
 
 -- the first rule that the bytes break, behind the limit on their number
 abbrev pub IsBroken : List ℕ → Fault → Type 0
-IsBroken bytes fault = IsUnlexed bytes fault ⊎ IsNotSmall bytes fault
+IsBroken bytes fault = IsUnlexed bytes fault ⊎ (IsUnparsed bytes fault ⊎ IsNotSmall bytes fault)
+
+-- the tokens are those of this small module, and derive a module
+pub record IsSmallFrom (tokens : List Token) (s : SmallModule) : Type 0 where
+  pub module_ : Module
+  pub derived : Derives tokens module_
+  pub small : IsSmall tokens s
+
+-- the tokens derive a module, and are those of no small one
+pub record IsNotSmallFrom (tokens : List Token) (fault : Fault) : Type 0 where
+  pub module_ : Module
+  pub derived : Derives tokens module_
+  pub none : (s : SmallModule) → IsSmall tokens s → ⊥
+  pub fault_is : fault ≡ record { rule = U1; at = 0 }
+
+-- the small module of the tokens of a file that ends there, or the fault for which they are refused
+abbrev pub IsReadFrom : List Token → ℕ → Result SmallModule Stop → Type 0
+IsReadFrom tokens end_ (Ok s) = IsSmallFrom tokens s
+IsReadFrom tokens end_ (Err (stop.Fault fault)) = IsRefused tokens end_ fault ⊎ IsNotSmallFrom tokens fault
+IsReadFrom tokens end_ (Err stop.OutOfMemory) = ⊤
 
 -- the small module of the bytes, or the fault for which they are refused
 abbrev pub IsRead : List ℕ → Result SmallModule Stop → Type 0

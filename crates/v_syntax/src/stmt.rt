@@ -61,7 +61,7 @@ pub enum Stmt {
         arms: Items<Arm>,
     },
     Assign {
-        target: Target,
+        target: Boxed<Target>,
         kind: AssignKind,
         value: Expr,
     },

@@ -1,4 +1,4 @@
-use Rattle.std.proofs.Common.{◌≡◌, take}
+use Rattle.std.proofs.Common.{take}
 use Rattle.lz_base.specs.Ports.{FitPorts}
 use Rattle.s_cli.proofs.simulating.zeros.Given as goal
 

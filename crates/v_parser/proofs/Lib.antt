@@ -1,0 +1,13 @@
+pub mod Depth
+pub mod Loop
+pub mod Ranks
+pub mod Exact
+pub mod Single
+pub mod Many
+pub mod Primaries
+pub mod Operands
+pub mod TargetRules
+pub mod Simple
+pub mod Nearest
+pub mod GroupRules
+pub mod ModuleRules

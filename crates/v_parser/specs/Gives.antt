@@ -1,0 +1,13 @@
+-- What a function of the code returned, against what a reader gives.
+use Rattle.std.specs.Prelude.{◌≡◌, List, Result, Ok, Err, ⊤}
+use Rattle.v_syntax.specs.declared.token.Token.{Token}
+use Rattle.v_parser.specs.declared.miss.Miss.{Miss}
+use Rattle.v_parser.specs.declared.miss.Miss.TheVariants as miss
+
+abbrev pub Fails : {A : Type 0} → Miss → Result A (List Token) → Type 0
+Fails miss.OutOfMemory read = ⊤
+Fails (miss.At tokens) read = read ≡ Err tokens.now
+
+abbrev pub Gives : {A B : Type 0} → (A → B) → Result A Miss → Result B (List Token) → Type 0
+Gives view (Ok x) read = read ≡ Ok (view x)
+Gives view (Err e) read = Fails e read

@@ -1,0 +1,136 @@
+ghost use Rattle.std.specs.Prelude.{◌≡◌, ◌≤◌, ◌<◌, [], ◌∷◌, Ok, Err, IfOk, length};
+ghost use Rattle.v_parser.specs.Modules.{settings_at, parameter_item_at, local_parameter_item_at, wire_item_at, reg_item_at, assign_item_at, always_item_at, item_at};
+ghost use Rattle.v_parser.specs.Gives.{Gives};
+
+use crate::declarations::{declared_list, flag, range_option, settings_list, variable_list};
+use crate::miss::{Miss, Read};
+use crate::stmts::stmt;
+use crate::tokens::{ident, mark, next_word, word};
+use std::alloc::Global;
+use v_syntax::{Item, Keyword, Mark, ParameterGroup, Token};
+
+#[tactic(auto, unfolding(crate::specs::Modules::settings_at))]
+fn settings<'t>(alloc: Global, tokens: &'t [Token]) -> Read<'t, ParameterGroup>
+    ensures gives { Gives (λ x. (x.0, x.1.now)) result (settings_at tokens.now) }
+    ensures shorter { IfOk result (λ x. length x.1.now < length tokens.now) }
+{
+    let (signed, rest) = flag(tokens, Keyword::Signed)?;
+    let (range, rest) = range_option(alloc, rest)?;
+    let (settings, rest) = settings_list(alloc, rest)?;
+    Ok((
+        ParameterGroup {
+            signed,
+            range,
+            settings,
+        },
+        rest,
+    ))
+}
+
+#[tactic(auto, unfolding(crate::specs::Modules::parameter_item_at))]
+fn parameter_item<'t>(alloc: Global, tokens: &'t [Token]) -> Read<'t, Item>
+    ensures gives { Gives (λ x. (x.0, x.1.now)) result (parameter_item_at tokens.now) }
+    ensures shorter { IfOk result (λ x. length x.1.now < length tokens.now) }
+{
+    let (_, rest) = word(tokens, Keyword::Parameter)?;
+    let (group, rest) = settings(alloc, rest)?;
+    let (_, rest) = mark(rest, Mark::Semicolon)?;
+    Ok((Item::Parameters(group), rest))
+}
+
+#[tactic(auto, unfolding(crate::specs::Modules::local_parameter_item_at))]
+fn local_parameter_item<'t>(alloc: Global, tokens: &'t [Token]) -> Read<'t, Item>
+    ensures gives { Gives (λ x. (x.0, x.1.now)) result (local_parameter_item_at tokens.now) }
+    ensures shorter { IfOk result (λ x. length x.1.now < length tokens.now) }
+{
+    let (_, rest) = word(tokens, Keyword::Localparam)?;
+    let (group, rest) = settings(alloc, rest)?;
+    let (_, rest) = mark(rest, Mark::Semicolon)?;
+    Ok((Item::LocalParameters(group), rest))
+}
+
+#[tactic(auto, unfolding(crate::specs::Modules::wire_item_at))]
+fn wire_item<'t>(alloc: Global, tokens: &'t [Token]) -> Read<'t, Item>
+    ensures gives { Gives (λ x. (x.0, x.1.now)) result (wire_item_at tokens.now) }
+    ensures shorter { IfOk result (λ x. length x.1.now < length tokens.now) }
+{
+    let (_, rest) = word(tokens, Keyword::Wire)?;
+    let (signed, rest) = flag(rest, Keyword::Signed)?;
+    let (range, rest) = range_option(alloc, rest)?;
+    let (nets, rest) = declared_list(alloc, rest)?;
+    let (_, rest) = mark(rest, Mark::Semicolon)?;
+    Ok((
+        Item::Wires {
+            signed,
+            range,
+            nets,
+        },
+        rest,
+    ))
+}
+
+#[tactic(auto, unfolding(crate::specs::Modules::reg_item_at))]
+fn reg_item<'t>(alloc: Global, tokens: &'t [Token]) -> Read<'t, Item>
+    ensures gives { Gives (λ x. (x.0, x.1.now)) result (reg_item_at tokens.now) }
+    ensures shorter { IfOk result (λ x. length x.1.now < length tokens.now) }
+{
+    let (_, rest) = word(tokens, Keyword::Reg)?;
+    let (signed, rest) = flag(rest, Keyword::Signed)?;
+    let (range, rest) = range_option(alloc, rest)?;
+    let (variables, rest) = variable_list(alloc, rest)?;
+    let (_, rest) = mark(rest, Mark::Semicolon)?;
+    Ok((
+        Item::Regs {
+            signed,
+            range,
+            variables,
+        },
+        rest,
+    ))
+}
+
+#[tactic(auto, unfolding(crate::specs::Modules::assign_item_at))]
+fn assign_item<'t>(alloc: Global, tokens: &'t [Token]) -> Read<'t, Item>
+    ensures gives { Gives (λ x. (x.0, x.1.now)) result (assign_item_at tokens.now) }
+    ensures shorter { IfOk result (λ x. length x.1.now < length tokens.now) }
+{
+    let (_, rest) = word(tokens, Keyword::Assign)?;
+    let (settings, rest) = settings_list(alloc, rest)?;
+    let (_, rest) = mark(rest, Mark::Semicolon)?;
+    Ok((Item::Assigns(settings), rest))
+}
+
+#[tactic(auto, unfolding(crate::specs::Modules::always_item_at))]
+fn always_item<'t>(alloc: Global, tokens: &'t [Token]) -> Read<'t, Item>
+    ensures gives { Gives (λ x. (x.0, x.1.now)) result (always_item_at tokens.now) }
+    ensures shorter { IfOk result (λ x. length x.1.now < length tokens.now) }
+{
+    let (_, rest) = word(tokens, Keyword::Always)?;
+    let (_, rest) = mark(rest, Mark::At)?;
+    let (_, rest) = mark(rest, Mark::OpenParen)?;
+    let (_, rest) = word(rest, Keyword::Posedge)?;
+    let (event, rest) = ident(alloc, rest)?;
+    let (_, rest) = mark(rest, Mark::CloseParen)?;
+    let (body, rest) = stmt(alloc, rest, 199)?;
+    Ok((Item::Always { event, body }, rest))
+}
+
+#[tactic(auto, unfolding(crate::specs::Modules::item_at))]
+pub(crate) fn item<'t>(alloc: Global, tokens: &'t [Token]) -> Read<'t, Item>
+    ensures gives { Gives (λ x. (x.0, x.1.now)) result (item_at tokens.now) }
+    ensures shorter { IfOk result (λ x. length x.1.now < length tokens.now) }
+{
+    if next_word(tokens, Keyword::Parameter) {
+        parameter_item(alloc, tokens)
+    } else if next_word(tokens, Keyword::Localparam) {
+        local_parameter_item(alloc, tokens)
+    } else if next_word(tokens, Keyword::Wire) {
+        wire_item(alloc, tokens)
+    } else if next_word(tokens, Keyword::Reg) {
+        reg_item(alloc, tokens)
+    } else if next_word(tokens, Keyword::Assign) {
+        assign_item(alloc, tokens)
+    } else {
+        always_item(alloc, tokens)
+    }
+}

@@ -7,7 +7,7 @@ use Rattle.lz_base.specs.declared.rule.Rule.TheVariants.{E1, E2}
 use Rattle.s_cli.specs.declared.status.Status.TheVariants as status
 use Rattle.v_syntax.specs.declared.token.Token.{Token}
 use Rattle.v_syntax.specs.Tokens.{Lexes, BreaksAt}
-use Rattle.s_flow.specs.Front.{IsBroken}
+use Rattle.s_flow.specs.Front.{IsMisread, IsBroken}
 use Rattle.s_cli.specs.Answers.{IfTold, IsTranslation, IsJudged}
 
 -- what holds of the bytes that stand under a name
@@ -36,9 +36,26 @@ pub judged_done : OneReading → (source output : List ℕ) → IsTranslation so
 judged_done one source output t = record {
   too_long = λ longer. absurd (omega (arith, t.within));
   unlexed = λ at _ breaks. absurd (one.apart source t.spelled.tokens at t.spelled.lexed breaks);
-  unparsed = λ ts _ lexed none. absurd (none t.spelled.module_ (rw (one.tokens source ts t.spelled.tokens lexed t.spelled.lexed) t.spelled.derived));
-  unsupported = λ ts _ _ lexed _ none. absurd (none t.module_ (rw (one.tokens source ts t.spelled.tokens lexed t.spelled.lexed) t.spelled.small));
+  unparsed = λ ts _ lexed none. absurd (none t.spelled.from.module_ (rw (one.tokens source ts t.spelled.tokens lexed t.spelled.lexed) t.spelled.from.derived));
+  unsupported = λ ts _ _ lexed _ none. absurd (none t.module_ (rw (one.tokens source ts t.spelled.tokens lexed t.spelled.lexed) t.spelled.from.small));
   small = λ _ _ _. inl refl;
+}
+
+-- a fault of the tokens
+judged_misread : OneReading → (source : List ℕ) (fault : Fault) (tokens : List Token) → length source ≤ 2 ^ 20 → Lexes source tokens → IsMisread tokens (length source) fault → IsJudged source (status.Refused fault)
+judged_misread one source fault tokens within lexes (inl refused) = record {
+  too_long = λ longer. absurd (omega arith);
+  unlexed = λ at _ breaks. absurd (one.apart source tokens at lexes breaks);
+  unparsed = λ ts _ lexed _. inl (fault, rw (one.tokens source ts tokens lexed lexes) refused, refl);
+  unsupported = λ ts m _ lexed derived _. absurd (refused.none m (rw (one.tokens source ts tokens lexed lexes) at derived));
+  small = λ s _ t. absurd (refused.none t.from.module_ (rw (one.tokens source t.tokens tokens t.lexed lexes) at t.from.derived));
+}
+judged_misread one source fault tokens within lexes (inr none) = record {
+  too_long = λ longer. absurd (omega arith);
+  unlexed = λ at _ breaks. absurd (one.apart source tokens at lexes breaks);
+  unparsed = λ ts _ lexed refused. absurd (refused none.module_ (rw (one.tokens source ts tokens lexed lexes) none.derived));
+  unsupported = λ _ _ _ _ _ _. inl (ap (λ (f : Fault). status.Refused f) none.fault_is);
+  small = λ s _ t. absurd (none.none s (rw (one.tokens source tokens t.tokens lexes t.lexed) t.from.small));
 }
 
 pub judged_broken : OneReading → (source : List ℕ) (fault : Fault) → length source ≤ 2 ^ 20 → IsBroken source fault → IsJudged source (status.Refused fault)
@@ -53,20 +70,7 @@ judged_broken one source fault within (inl r) = record {
   unsupported = λ ts _ _ lexed _ _. absurd (one.apart source ts fault.at lexed r.breaks);
   small = λ s _ t. absurd (one.apart source t.tokens fault.at t.lexed r.breaks);
 }
-judged_broken one source fault within (inr (inl r)) = record {
-  too_long = λ longer. absurd (omega arith);
-  unlexed = λ at _ breaks. absurd (one.apart source r.tokens at r.lexed breaks);
-  unparsed = λ ts _ lexed _. inl (fault, rw (one.tokens source ts r.tokens lexed r.lexed) r.refused, refl);
-  unsupported = λ ts m _ lexed derived _. absurd (r.refused.none m (rw (one.tokens source ts r.tokens lexed r.lexed) at derived));
-  small = λ s _ t. absurd (r.refused.none t.module_ (rw (one.tokens source t.tokens r.tokens t.lexed r.lexed) at t.derived));
-}
-judged_broken one source fault within (inr (inr r)) = record {
-  too_long = λ longer. absurd (omega arith);
-  unlexed = λ at _ breaks. absurd (one.apart source r.tokens at r.lexed breaks);
-  unparsed = λ ts _ lexed none. absurd (none r.module_ (rw (one.tokens source ts r.tokens lexed r.lexed) r.derived));
-  unsupported = λ _ _ _ _ _ _. inl (ap (λ (f : Fault). status.Refused f) r.fault_is);
-  small = λ s _ t. absurd (r.none s (rw (one.tokens source r.tokens t.tokens r.lexed t.lexed) t.small));
-}
+judged_broken one source fault within (inr r) = judged_misread one source fault r.tokens within r.lexed r.misread
 
 -- where more than the limit stand under a name, that holds of the bytes there
 pub told_longer : (told : Told) (name : List ℕ) (rest : Option (List ℕ)) → StandsLonger told name (2 ^ 20) rest

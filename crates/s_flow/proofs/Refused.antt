@@ -23,8 +23,6 @@ unparsed tokens end_ stop.OutOfMemory refused = tt
 
 -- what is read from the tokens of the bytes is read from the bytes
 pub read_from : (bytes : List ℕ) (tokens : List Token) (end_ : ℕ) (r : Result SmallModule Stop) → end_ ≡ length bytes → Lexes bytes tokens → IsReadFrom tokens end_ r → IsRead bytes r
-read_from bytes tokens end_ (Ok s) is lexes from = record { tokens = tokens; lexed = lexes; module_ = from.module_; derived = from.derived; small = from.small }
-read_from bytes tokens end_ (Err (stop.Fault fault)) is lexes (inl refused) = inr (inl (record { tokens = tokens; lexed = lexes; refused = rw is at refused }))
-read_from bytes tokens end_ (Err (stop.Fault fault)) is lexes (inr from) =
-    inr (inr (record { tokens = tokens; lexed = lexes; module_ = from.module_; derived = from.derived; none = from.none; fault_is = from.fault_is }))
+read_from bytes tokens end_ (Ok s) is lexes from = record { tokens = tokens; lexed = lexes; from = from }
+read_from bytes tokens end_ (Err (stop.Fault fault)) is lexes from = inr (record { tokens = tokens; lexed = lexes; misread = rw is at from })
 read_from bytes tokens end_ (Err stop.OutOfMemory) is lexes from = tt

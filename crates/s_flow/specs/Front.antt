@@ -11,49 +11,38 @@ use Rattle.v_parser.specs.Refusal.{IsRefused}
 use Rattle.v_syntax.specs.declared.small.SmallModule.{SmallModule}
 use Rattle.v_syntax.specs.Tokens.{Lexes, BreaksAt}
 use Rattle.v_syntax.specs.Small.{IsSmall}
-use Rattle.s_flow.specs.SmallText.{IsSmallText}
+use Rattle.s_flow.specs.SmallText.{IsSmallFrom, IsSmallText}
 
 -- E2: at this byte begins neither white space, a comment, a skipped line nor a token.
 pub record IsUnlexed (bytes : List ℕ) (fault : Fault) : Type 0 where
   pub breaks : BreaksAt bytes fault.at
   pub rule_is : fault.rule ≡ E2
 
--- E3: the bytes have tokens that derive no module, and no module's tokens begin with those up to this place.
-pub record IsUnparsed (bytes : List ℕ) (fault : Fault) : Type 0 where
-  pub tokens : List Token
-  pub lexed : Lexes bytes tokens
-  pub refused : IsRefused tokens (length bytes) fault
-
--- U1: the bytes have tokens that derive a module, and they are those of no small one.
-pub record IsNotSmall (bytes : List ℕ) (fault : Fault) : Type 0 where
-  pub tokens : List Token
-  pub lexed : Lexes bytes tokens
+-- U1: the tokens derive a module, and they are those of no small one.
+pub record IsNotSmall (tokens : List Token) (fault : Fault) : Type 0 where
   pub module_ : Module
   pub derived : Derives tokens module_
   pub none : (s : SmallModule) → IsSmall tokens s → ⊥
   pub fault_is : fault ≡ record { rule = U1; at = 0 }
+
+-- The fault of the tokens of a file that ends there. It is E3 where they derive no module.
+abbrev pub IsMisread : List Token → ℕ → Fault → Type 0
+IsMisread tokens end_ fault = IsRefused tokens end_ fault ⊎ IsNotSmall tokens fault
+
+-- the bytes have tokens, and the fault is theirs
+pub record IsUnread (bytes : List ℕ) (fault : Fault) : Type 0 where
+  pub tokens : List Token
+  pub lexed : Lexes bytes tokens
+  pub misread : IsMisread tokens (length bytes) fault
 
 -- the first rule that the bytes break, behind the limit on their number
 abbrev pub IsBroken : List ℕ → Fault → Type 0
-IsBroken bytes fault = IsUnlexed bytes fault ⊎ (IsUnparsed bytes fault ⊎ IsNotSmall bytes fault)
-
--- the tokens are those of this small module, and derive a module
-pub record IsSmallFrom (tokens : List Token) (s : SmallModule) : Type 0 where
-  pub module_ : Module
-  pub derived : Derives tokens module_
-  pub small : IsSmall tokens s
-
--- the tokens derive a module, and are those of no small one
-pub record IsNotSmallFrom (tokens : List Token) (fault : Fault) : Type 0 where
-  pub module_ : Module
-  pub derived : Derives tokens module_
-  pub none : (s : SmallModule) → IsSmall tokens s → ⊥
-  pub fault_is : fault ≡ record { rule = U1; at = 0 }
+IsBroken bytes fault = IsUnlexed bytes fault ⊎ IsUnread bytes fault
 
 -- the small module of the tokens of a file that ends there, or the fault for which they are refused
 abbrev pub IsReadFrom : List Token → ℕ → Result SmallModule Stop → Type 0
 IsReadFrom tokens end_ (Ok s) = IsSmallFrom tokens s
-IsReadFrom tokens end_ (Err (stop.Fault fault)) = IsRefused tokens end_ fault ⊎ IsNotSmallFrom tokens fault
+IsReadFrom tokens end_ (Err (stop.Fault fault)) = IsMisread tokens end_ fault
 IsReadFrom tokens end_ (Err stop.OutOfMemory) = ⊤
 
 -- the small module of the bytes, or the fault for which they are refused

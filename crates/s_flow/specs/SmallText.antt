@@ -7,10 +7,14 @@ use Rattle.v_syntax.specs.ModuleGrammar.{Derives}
 use Rattle.v_syntax.specs.Tokens.{Lexes}
 use Rattle.v_syntax.specs.Small.{IsSmall}
 
--- The bytes are a text of this small module: their tokens derive a module, and they are those of the small module.
-pub record IsSmallText (bytes : List ℕ) (s : SmallModule) : Type 0 where
-  pub tokens : List Token
-  pub lexed : Lexes bytes tokens
+-- The tokens derive a module, and they are those of this small one.
+pub record IsSmallFrom (tokens : List Token) (s : SmallModule) : Type 0 where
   pub module_ : Module
   pub derived : Derives tokens module_
   pub small : IsSmall tokens s
+
+-- The bytes are a text of this small module.
+pub record IsSmallText (bytes : List ℕ) (s : SmallModule) : Type 0 where
+  pub tokens : List Token
+  pub lexed : Lexes bytes tokens
+  pub from : IsSmallFrom tokens s

@@ -10,3 +10,6 @@ mod reading;
 
 pub use making::make;
 pub use reading::front;
+
+#[cfg(test)]
+mod tests;

@@ -1,4 +1,5 @@
 pub mod Contents
 pub mod Listed
+pub mod MetNames
 pub mod Pieces
 pub mod Powers

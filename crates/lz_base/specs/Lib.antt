@@ -1,8 +1,11 @@
+pub mod Answers
 pub mod Bits
 pub mod Causes
 pub mod Host
+pub mod Limits
 pub mod MemoryFiles
 pub mod MemorySink
+pub mod Met
 pub mod Names
 pub mod Outside
 pub mod Ports

@@ -1,5 +1,5 @@
--- What a name is, and when names are distinct.
-use Rattle.std.specs.Prelude.{◌≢◌, ⊤, ℕ, List, [], ◌∷◌, Bool, false, ◌&&◌, ◌||◌, ◌==◌, nat_le, IsTrue}
+-- What a name is, when names are distinct, and when a name is one of several.
+use Rattle.std.specs.Prelude.{◌≡◌, ◌≢◌, ◌⊎◌, ⊤, ℕ, List, [], ◌∷◌, Bool, false, ◌&&◌, ◌||◌, ◌==◌, nat_le, bytes_eq, IsTrue}
 use Rattle.std.specs.List.{list_all}
 
 -- the byte lies in this range, both ends included
@@ -32,3 +32,18 @@ IsNew name (other ∷ names) = (name ≢ other) × IsNew name names
 abbrev pub AreDistinct : List (List ℕ) → Type 0
 AreDistinct [] = ⊤
 AreDistinct (name ∷ names) = IsNew name names × AreDistinct names
+
+-- the name is one of these
+abbrev pub IsAmong : List ℕ → List (List ℕ) → Type 0
+IsAmong name [] = ⊥
+IsAmong name (other ∷ names) = (name ≡ other) ⊎ IsAmong name names
+
+-- each of the names is one of those
+abbrev pub AreAmong : List (List ℕ) → List (List ℕ) → Type 0
+AreAmong [] names = ⊤
+AreAmong (name ∷ more) names = IsAmong name names × AreAmong more names
+
+-- whether the name is one of these
+abbrev pub is_among : List ℕ → List (List ℕ) → Bool
+is_among name [] = false
+is_among name (other ∷ names) = bytes_eq other name || is_among name names

@@ -1,7 +1,7 @@
 -- How a rule is spelled.
 use Rattle.std.specs.Prelude.{ℕ, List, codes}
 use Rattle.lz_base.specs.declared.rule.Rule.{Rule}
-use Rattle.lz_base.specs.declared.rule.Rule.TheVariants.{E1, E2, E3, E4, E5, E6, E7, E8, E9, E10, E11, E12, E13, P1, P2, P3, P4, P5, P6, P7, P8, W1, N1, N2, G1, G2, T1, C1, S1, U1}
+use Rattle.lz_base.specs.declared.rule.Rule.TheVariants.{E1, E2, E3, E4, E5, E6, E7, E8, E9, E10, E11, E12, E13, P1, P2, P3, P4, P5, P6, P7, P8, P9, P10, W1, N1, N2, G1, G2, T1, C1, S1, U1}
 
 abbrev pub rule_text : Rule → List ℕ
 rule_text E1 = codes "E1"
@@ -25,6 +25,8 @@ rule_text P5 = codes "P5"
 rule_text P6 = codes "P6"
 rule_text P7 = codes "P7"
 rule_text P8 = codes "P8"
+rule_text P9 = codes "P9"
+rule_text P10 = codes "P10"
 rule_text W1 = codes "W1"
 rule_text N1 = codes "N1"
 rule_text N2 = codes "N2"

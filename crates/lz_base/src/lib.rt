@@ -13,8 +13,10 @@
 
 mod fault;
 mod host;
+mod limits;
 mod memory_files;
 mod memory_sink;
+mod met;
 mod name;
 mod outside;
 mod rule;
@@ -25,9 +27,11 @@ mod word;
 
 pub use fault::{Failed, Fault, OutOfMemory, Partial, ReadEnd, Stop};
 pub use host::{HostFiles, HostSink};
+pub use limits::{SOURCE_LIMIT, TEXT_LIMIT};
 pub use memory_files::MemFiles;
 pub use memory_sink::MemSink;
-pub use name::{Name, Port};
+pub use met::{is_among_decides, meet, no_names};
+pub use name::{Name, Port, is_name_byte, is_name_start};
 pub use outside::{Files, Sink};
 pub use rule::Rule;
 pub use sqlite_items::{Boxed, Items};

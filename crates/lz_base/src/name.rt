@@ -1,8 +1,11 @@
 ghost use Rattle.std.specs.Prelude.{◌≡◌, ◌↔◌, IsTrue, IfOk, bytes_eq};
 ghost use Rattle.lz_base.specs.Names.{IsName};
+ghost use Rattle.lz_base.specs.Names as names;
 
 use crate::OutOfMemory;
 use std::alloc::{AllocError, Global};
+use std::cmp::Ordering;
+use std::hash::{Hash, Hasher};
 use std::marker::Model;
 
 /// A name of the language or of a text: a letter or `_`, then letters, digits, `_` and `$`. Contracts see it as
@@ -67,6 +70,54 @@ impl Eq for Name {
     ghost laws = { nat_list_eq_equiv };
 }
 
+/// Names stand in the order of their bytes.
+impl PartialOrd for Name {
+    ghost use Rattle.std.specs.Prelude.{Some};
+    ghost use Rattle.std.specs.Ordering.{nat_cmp};
+    ghost use Rattle.std.specs.Cmp.Lexicographic.{slice_cmp, texts_po};
+
+    ghost partial_cmp = { λ a b. Some (slice_cmp nat_cmp a b) };
+
+    ghost laws = { texts_po };
+
+    fn partial_cmp(&self, other: &Name) -> Option<Ordering> {
+        Some(self.cmp(other))
+    }
+}
+
+impl Ord for Name {
+    ghost use Rattle.std.proofs.Common.{refl};
+    ghost use Rattle.std.specs.Ordering.{nat_cmp};
+    ghost use Rattle.std.specs.Cmp.Lexicographic.{slice_cmp, nat_list_cmp_total, texts_ties};
+
+    ghost cmp = { slice_cmp nat_cmp };
+
+    ghost total = { nat_list_cmp_total };
+
+    ghost matches_partial_cmp = { λ a b. refl };
+
+    ghost matches_eq = { texts_ties };
+
+    fn cmp(&self, other: &Name) -> Ordering {
+        self.bytes().cmp(other.bytes())
+    }
+}
+
+/// Equal names hash alike.
+impl Hash for Name {
+    ghost use Rattle.std.proofs.Common.{rules};
+    ghost use Rattle.std.specs.Hash as fed;
+    ghost use Rattle.std.specs.Cmp.Rules.{hashing};
+
+    ghost hash_input = { fed.slice fed.u8 };
+
+    ghost respects_eq = { Prim.search (hashing, rules) };
+
+    fn hash<H: Hasher>(&self, state: &mut H) {
+        self.bytes().hash(state);
+    }
+}
+
 /// A clone has the same bytes, or no memory was found.
 impl Clone for Name {
     ghost use Rattle.std.specs.Prelude.{◌≡◌};
@@ -78,6 +129,20 @@ impl Clone for Name {
             bytes: self.bytes.clone()?,
         })
     }
+}
+
+/// Whether a name may begin with this byte: a letter or `_`.
+pub fn is_name_start(byte: u8) -> bool
+    ensures { result ≡ names.is_name_start byte }
+{
+    (b'a' <= byte && byte <= b'z') || (b'A' <= byte && byte <= b'Z') || byte == b'_'
+}
+
+/// Whether a name may go on with this byte: a letter, a digit, `_` or `$`.
+pub fn is_name_byte(byte: u8) -> bool
+    ensures { result ≡ names.is_name_byte byte }
+{
+    is_name_start(byte) || (b'0' <= byte && byte <= b'9') || byte == b'$'
 }
 
 /// A port of a module, a network or a netlist: its name, and its width in bits.

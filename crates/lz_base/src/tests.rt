@@ -1,6 +1,6 @@
 use crate::{
-    Failed, Files, HostFiles, HostSink, MemFiles, MemSink, Name, Partial, ReadEnd, Rule, Sink,
-    Word, read_file, write_all,
+    Failed, Files, HostFiles, HostSink, MemFiles, MemSink, Name, Partial, ReadEnd, Sink, Word,
+    read_file, write_all,
 };
 use std::alloc::{AllocError, Global};
 use std::io::{ErrorKind, Write};
@@ -44,50 +44,12 @@ fn bits_count_from_the_least(rt: HostRuntime) {
 }
 
 #[test]
-fn rules_have_texts(rt: HostRuntime) {
-    let cases = [
-        (Rule::E1, "E1"),
-        (Rule::E2, "E2"),
-        (Rule::E3, "E3"),
-        (Rule::E4, "E4"),
-        (Rule::E5, "E5"),
-        (Rule::E6, "E6"),
-        (Rule::E7, "E7"),
-        (Rule::E8, "E8"),
-        (Rule::E9, "E9"),
-        (Rule::E10, "E10"),
-        (Rule::E11, "E11"),
-        (Rule::E12, "E12"),
-        (Rule::E13, "E13"),
-        (Rule::P1, "P1"),
-        (Rule::P2, "P2"),
-        (Rule::P3, "P3"),
-        (Rule::P4, "P4"),
-        (Rule::P5, "P5"),
-        (Rule::P6, "P6"),
-        (Rule::P7, "P7"),
-        (Rule::P8, "P8"),
-        (Rule::W1, "W1"),
-        (Rule::N1, "N1"),
-        (Rule::N2, "N2"),
-        (Rule::G1, "G1"),
-        (Rule::G2, "G2"),
-        (Rule::T1, "T1"),
-        (Rule::C1, "C1"),
-        (Rule::S1, "S1"),
-        (Rule::U1, "U1"),
-    ];
-    for (rule, want) in cases {
-        assert_eq!(rt; rule.text(), want);
-    }
-}
-
-#[test]
 fn names_are_their_bytes(rt: HostRuntime) -> Result<(), Fail> {
     let name = Name::new(rt.alloc(), b"_a1$".as_slice())?;
     assert_eq!(rt; name.bytes(), b"_a1$".as_slice());
     let other = Name::new(rt.alloc(), b"Z".as_slice())?;
     assert!(rt; name == name.clone()? && name != other);
+    assert!(rt; other < name && name <= name.clone()?);
     Ok(())
 }
 

@@ -1,13 +1,13 @@
 -- What is read of a decimal number.
-use Rattle.std.proofs.Common.{◌≡◌, ℕ, ◌+◌, ◌-◌, ◌*◌, ◌/◌, ◌%◌, ◌^◌, ◌<◌, ◌≤◌, List, [], ◌∷◌, ◌++◌, Bool, true, false, cond, Ok, Err, Result, IfOk, IfErr, subst, append-nil, refl, arith, ap, sym, ◌∙◌, append_assoc, length}
+use Rattle.std.proofs.Common.{◌≡◌, inl, inr, ℕ, ◌+◌, ◌-◌, ◌*◌, ◌/◌, ◌%◌, ◌^◌, ◌<◌, ◌≤◌, List, [], ◌∷◌, ◌++◌, Bool, true, false, cond, Ok, Err, Result, IfOk, subst, append-nil, refl, arith, ap, sym, ◌∙◌, append_assoc, length}
 use Rattle.std.specs.Fmt.{decimal}
 use Rattle.std.proofs.lemmas.Fmt.{decimal_by_steps_wide, decimal_step_wide, decimal_digit}
 use Rattle.std.proofs.lemmas.Bool.Decides.{nat_tests}
-use Rattle.lz_lines.specs.Fields.{number}
-use Rattle.lz_lines.specs.Readers.{is_digit, BeginsWithout, Gives}
+use Rattle.lz_lines.specs.Fields.{number, IsNumber}
+use Rattle.lz_lines.specs.Readers.{is_digit, BeginsWithout}
 use Rattle.lz_lines.specs.Digits.{Tells, goes_on, more_digits, is_first, decimal_at}
-use Rattle.lz_lines.specs.Places.{EndsNumber, IsNumber, Leave}
-use Rattle.lz_lines.proofs.Places.{leave_behind, leave_now}
+use Rattle.lz_lines.specs.Forms.{Takes, Breaks, Reads, Parted, IsParted, GoAlike}
+use Rattle.lz_lines.proofs.Forms.{after_byte, after_reads, breaks_now, NoneBegins}
 use Rattle.lz_lines.specs.declared.reading.Broken.{Broken}
 
 -- the test of a first digit, both ways
@@ -85,16 +85,16 @@ more_splits high n (b ∷ bs) fits hi = at (more_splits high (n * 10 + (b - 48))
         }
 
 -- what is read is spelled so
-pub record Takes (low high : ℕ) (bytes : List ℕ) (n : ℕ) (rest : List ℕ) : Type 0 where
+pub record Found (low high : ℕ) (bytes : List ℕ) (n : ℕ) (rest : List ℕ) : Type 0 where
   pub least : low ≤ n
   pub most : n ≤ high
   pub split : bytes ≡ decimal n ++ rest
 
-pub decimal_takes : (low high : ℕ) (bytes : List ℕ) (n : ℕ) (rest : List ℕ) → high < 2 ^ 128 → decimal_at low high bytes ≡ Ok (n, rest) → Takes low high bytes n rest
+pub decimal_takes : (low high : ℕ) (bytes : List ℕ) (n : ℕ) (rest : List ℕ) → high < 2 ^ 128 → decimal_at low high bytes ≡ Ok (n, rest) → Found low high bytes n rest
 decimal_takes low high [] n rest fits e = cc
 decimal_takes low high (b ∷ bs) n rest fits e = at (is_first low high b) refl e
   where
-    at : (t : Bool) → is_first low high b ≡ t → cond t (Ok (more_digits high (b - 48) bs)) (Err (length (b ∷ bs))) ≡ Ok (n, rest) → Takes low high (b ∷ bs) n rest
+    at : (t : Bool) → is_first low high b ≡ t → cond t (Ok (more_digits high (b - 48) bs)) (Err (length (b ∷ bs))) ≡ Ok (n, rest) → Found low high (b ∷ bs) n rest
     at false t e = cc
     at true t e =
         let was = first_was low high b t in
@@ -108,82 +108,96 @@ decimal_takes low high (b ∷ bs) n rest fits e = at (is_first low high b) refl 
           split = ap (λ k. k ++ bs) (sym digit) ∙ more.split ∙ ap (λ (r : ℕ × List ℕ). decimal r.0 ++ r.1) is;
         }
 
--- the same of a function's answer, behind the blank
+-- no further digit belongs to the number: it would stand behind a 0, or make the number greater than its bound
+ended : (high n : ℕ) (bs : List ℕ) → (rest : List ℕ) → GoAlike (more_digits high n bs).1 rest → more_digits high (more_digits high n bs).0 rest ≡ ((more_digits high n bs).0, rest)
+ended high n [] rest alike = rw alike refl
+ended high n (b ∷ bs) rest alike = at (ended high (n * 10 + (b - 48)) bs rest) (goes_on high n b) refl alike
+  where
+    at : (GoAlike (more_digits high (n * 10 + (b - 48)) bs).1 rest → more_digits high (more_digits high (n * 10 + (b - 48)) bs).0 rest ≡ ((more_digits high (n * 10 + (b - 48)) bs).0, rest))
+        → (t : Bool) → goes_on high n b ≡ t → GoAlike (cond t (more_digits high (n * 10 + (b - 48)) bs) (n, b ∷ bs)).1 rest
+        → more_digits high (cond t (more_digits high (n * 10 + (b - 48)) bs) (n, b ∷ bs)).0 rest ≡ ((cond t (more_digits high (n * 10 + (b - 48)) bs) (n, b ∷ bs)).0, rest)
+    at more true e alike = more alike
+    at more false e alike = rw (alike.1, e) refl
+
+decimal_ended : (low high : ℕ) (bytes : List ℕ) (n : ℕ) (rest : List ℕ) → decimal_at low high bytes ≡ Ok (n, rest) → (other : List ℕ) → GoAlike rest other → more_digits high n other ≡ (n, other)
+decimal_ended low high [] n rest e = cc
+decimal_ended low high (b ∷ bs) n rest e = at (is_first low high b) e
+  where
+    at : (t : Bool) → cond t (Ok (more_digits high (b - 48) bs)) (Err (length (b ∷ bs))) ≡ Ok (n, rest) → (other : List ℕ) → GoAlike rest other → more_digits high n other ≡ (n, other)
+    at false e = cc
+    at true e =
+        let is : more_digits high (b - 48) bs ≡ (n, rest) = cc in
+        subst (λ (r : ℕ × List ℕ). (other : List ℕ) → GoAlike r.1 other → more_digits high r.0 other ≡ (r.0, other)) is (ended high (b - 48) bs)
+
+-- a number, without its blank
+abbrev IsDecimal : ℕ → ℕ → ℕ → List ℕ → Type 0
+IsDecimal low high n text = (low ≤ n) × (n ≤ high) × (text ≡ decimal n)
+
+no_digit : (bytes : List ℕ) → IsParted bytes → BeginsWithout is_digit bytes
+no_digit bytes (inl is) = subst (BeginsWithout is_digit) (sym is.1) refl
+no_digit bytes (inr is) = subst (BeginsWithout is_digit) (sym is.1) refl
+
+-- what a number is taken for
+decimal_taken : (low high : ℕ) (bytes : List ℕ) (n : ℕ) (rest : List ℕ) → high < 2 ^ 128 → low ≤ 1 → decimal_at low high bytes ≡ Ok (n, rest) → Takes (IsDecimal low high) Parted bytes n rest
+decimal_taken low high bytes n rest fits one e =
+    let t = decimal_takes low high bytes n rest fits e in
+    record {
+      front = decimal n;
+      is = (t.least, t.most, refl);
+      split = t.split;
+      only = λ u text behind other is parted alike same.
+          let here = front_taken low high n (omega (arith, t.most)) one t.least t.most other ∙ ap Ok (decimal_ended low high bytes n rest e other alike) in
+          let there = decimal_again low high u behind fits one is.0 is.1 (no_digit behind parted) in
+          let both : Ok (u, behind) ≡ Ok (n, other) = sym there ∙ ap (λ l. decimal_at low high (l ++ behind)) (sym is.2) ∙ ap (decimal_at low high) (sym same) ∙ here in
+          let pair : (u, behind) ≡ (n, other) = cc in
+          (ap (λ (r : ℕ × List ℕ). r.0) pair, sym (ap (λ (r : ℕ × List ℕ). r.1) pair));
+    }
+
+-- where no number is read, the first byte begins none
+decimal_breaks : (low high left : ℕ) (bytes : List ℕ) → high < 2 ^ 128 → low ≤ 1 → low ≤ high → decimal_at low high bytes ≡ Err left → Breaks (IsDecimal low high) Parted bytes left
+decimal_breaks low high left bytes fits one order e =
+    subst (λ l. Breaks (IsDecimal low high) Parted bytes l) (all bytes e)
+    (breaks_now (IsDecimal low high) Parted bytes low (decimal low) (omega arith, order, refl) some (none bytes e))
+  where
+    taken : (n : ℕ) (text : List ℕ) → IsDecimal low high n text → decimal_at low high text ≡ Ok (more_digits high n [])
+    taken n text is = ap (decimal_at low high) (is.2 ∙ sym (append-nil (decimal n))) ∙ front_taken low high n (omega (arith, is.1)) one is.0 is.1 []
+
+    some : (n : ℕ) → IsDecimal low high n [] → ⊥
+    some n is = let read = taken n [] is in cc
+
+    all : (bytes : List ℕ) → decimal_at low high bytes ≡ Err left → length bytes ≡ left
+    all [] e = cc
+    all (b ∷ bs) e = at (is_first low high b) e
+      where
+        at : (t : Bool) → cond t (Ok (more_digits high (b - 48) bs)) (Err (length (b ∷ bs))) ≡ Err left → length (b ∷ bs) ≡ left
+        at true e = cc
+        at false e = cc
+
+    none : (bytes : List ℕ) → decimal_at low high bytes ≡ Err left → NoneBegins (IsDecimal low high) bytes
+    none [] e = tt
+    none (b ∷ bs) e = at (is_first low high b) refl e
+      where
+        at : (t : Bool) → is_first low high b ≡ t → cond t (Ok (more_digits high (b - 48) bs)) (Err (length (b ∷ bs))) ≡ Err left → NoneBegins (IsDecimal low high) (b ∷ bs)
+        at true t e = cc
+        at false t e = λ n more is. let read = taken n (b ∷ more) is in cc
+
+-- the same of a function's answer
+decimal_reads : {X : Type 0} (value : X → ℕ) (after : X → List ℕ) (result : Result X Broken) (low high : ℕ) (bytes : List ℕ) → high < 2 ^ 128 → low ≤ 1 → low ≤ high
+    → Tells (λ x. (value x, after x)) result (decimal_at low high bytes) → Reads (IsDecimal low high) Parted value after bytes result
+decimal_reads value after (Ok x) low high bytes fits one order h = decimal_taken low high bytes (value x) (after x) fits one h
+decimal_reads value after (Err e) low high bytes fits one order h = decimal_breaks low high e.left bytes fits one order h
+
+-- and behind the blank
+pub number_reads : {X : Type 0} (value : X → ℕ) (after : X → List ℕ) (result : Result X Broken) (low high : ℕ) (whole bytes : List ℕ) → high < 2 ^ 128 → low ≤ 1 → low ≤ high → whole ≡ 32 ∷ bytes
+    → Tells (λ x. (value x, after x)) result (decimal_at low high bytes) → Reads (IsNumber low high) Parted value after whole result
+number_reads value after result low high whole bytes fits one order blank h =
+    after_reads value after result
+    (after_byte (IsNumber low high) (IsDecimal low high) Parted 32 whole bytes blank (λ v is. cc (is.2)) (λ v text is. (is.0, is.1, ap (λ l. 32 ∷ l) is.2)) (λ v text is. (is.0, is.1, cc (is.2))))
+    (decimal_reads value after result low high bytes fits one order h)
+
 pub number_found : {X : Type 0} (value : X → ℕ) (after : X → List ℕ) (result : Result X Broken) (low high : ℕ) (whole bytes : List ℕ) → high < 2 ^ 128 → whole ≡ 32 ∷ bytes
     → Tells (λ x. (value x, after x)) result (decimal_at low high bytes) → IfOk result (λ x. (low ≤ value x) × (value x ≤ high) × (whole ≡ number (value x) ++ after x))
 number_found value after (Ok x) low high whole bytes fits blank h =
     let t = decimal_takes low high bytes (value x) (after x) fits h in
     (t.least, t.most, blank ∙ ap (λ l. 32 ∷ l) t.split)
 number_found value after (Err e) low high whole bytes fits blank h = tt
-
-pub number_only : {X : Type 0} (value : X → ℕ) (after : X → List ℕ) (result : Result X Broken) (low high n : ℕ) (whole bytes rest : List ℕ) → high < 2 ^ 128 → low ≤ 1 → whole ≡ 32 ∷ bytes
-    → Tells (λ x. (value x, after x)) result (decimal_at low high bytes) → low ≤ n → n ≤ high → BeginsWithout is_digit rest → whole ≡ number n ++ rest → Gives value after result n rest
-number_only value after (Ok x) low high n whole bytes rest fits one blank h lo hi ends is =
-    let same : bytes ≡ decimal n ++ rest = cc in
-    let again = decimal_again low high n rest fits one lo hi ends in
-    let e : (value x, after x) ≡ (n, rest) = cc in
-    (ap (λ (r : ℕ × List ℕ). r.0) e, ap (λ (r : ℕ × List ℕ). r.1) e)
-number_only value after (Err e) low high n whole bytes rest fits one blank h lo hi ends is =
-    let same : bytes ≡ decimal n ++ rest = cc in
-    let again = decimal_again low high n rest fits one lo hi ends in
-    cc
-
--- a digit that the number could take is taken
-on_of : (high n b : ℕ) → is_digit b ≡ true → 0 < n → n * 10 + (b - 48) ≤ high → goes_on high n b ≡ true
-on_of high n b h some hi = grind (arith, nat_tests)
-
-more_ends : (high n : ℕ) (bs : List ℕ) → EndsNumber high (more_digits high n bs).0 (more_digits high n bs).1
-more_ends high n [] = tt
-more_ends high n (b ∷ bs) = at (more_ends high (n * 10 + (b - 48)) bs) (goes_on high n b) refl
-  where
-    at : EndsNumber high (more_digits high (n * 10 + (b - 48)) bs).0 (more_digits high (n * 10 + (b - 48)) bs).1
-        → (t : Bool) → goes_on high n b ≡ t → EndsNumber high (cond t (more_digits high (n * 10 + (b - 48)) bs) (n, b ∷ bs)).0 (cond t (more_digits high (n * 10 + (b - 48)) bs) (n, b ∷ bs)).1
-    at more true e = more
-    at more false e = λ digit some hi. let on : goes_on high n b ≡ true = on_of high n b digit some hi in cc
-
-decimal_ends : (low high : ℕ) (bytes : List ℕ) (n : ℕ) (rest : List ℕ) → decimal_at low high bytes ≡ Ok (n, rest) → EndsNumber high n rest
-decimal_ends low high [] n rest e = cc
-decimal_ends low high (b ∷ bs) n rest e = at (is_first low high b) e
-  where
-    at : (t : Bool) → cond t (Ok (more_digits high (b - 48) bs)) (Err (length (b ∷ bs))) ≡ Ok (n, rest) → EndsNumber high n rest
-    at false e = cc
-    at true e =
-        let is : more_digits high (b - 48) bs ≡ (n, rest) = cc in
-        subst (λ (r : ℕ × List ℕ). EndsNumber high r.0 r.1) is (more_ends high (b - 48) bs)
-
--- the same of a function's answer
-pub number_end : {X : Type 0} (value : X → ℕ) (after : X → List ℕ) (result : Result X Broken) (low high : ℕ) (bytes : List ℕ)
-    → Tells (λ x. (value x, after x)) result (decimal_at low high bytes) → IfOk result (λ x. EndsNumber high (value x) (after x))
-number_end value after (Ok x) low high bytes h = decimal_ends low high bytes (value x) (after x) h
-number_end value after (Err e) low high bytes h = tt
-
--- a number, without its blank
-abbrev IsDecimal : ℕ → ℕ → List ℕ → Type 0
-IsDecimal low high text = (n : ℕ) × (low ≤ n) × (n ≤ high) × (text ≡ decimal n)
-
--- where no number is read, the first byte begins none
-decimal_place : (low high left : ℕ) (bytes : List ℕ) → high < 2 ^ 128 → low ≤ 1 → low ≤ high → decimal_at low high bytes ≡ Err left → Leave (IsDecimal low high) bytes left
-decimal_place low high left [] fits one order e =
-    let none : 0 ≡ left = cc in
-    subst (λ l. Leave (IsDecimal low high) [] l) none (leave_now (IsDecimal low high) [] (decimal low) (low, omega arith, order, refl) tt)
-decimal_place low high left (b ∷ bs) fits one order e = at (is_first low high b) refl e
-  where
-    at : (t : Bool) → is_first low high b ≡ t → cond t (Ok (more_digits high (b - 48) bs)) (Err (length (b ∷ bs))) ≡ Err left → Leave (IsDecimal low high) (b ∷ bs) left
-    at true t e = cc
-    at false t e =
-        let all : length (b ∷ bs) ≡ left = cc in
-        subst (λ l. Leave (IsDecimal low high) (b ∷ bs) l) all (leave_now (IsDecimal low high) (b ∷ bs) (decimal low) (low, omega arith, order, refl) none)
-      where
-        none : (more : List ℕ) → IsDecimal low high (b ∷ more) → ⊥
-        none more is =
-            let taken = front_taken low high is.0 (omega (arith, is.2)) one is.1 is.2 [] in
-            let same : decimal is.0 ++ [] ≡ b ∷ more = append-nil (decimal is.0) ∙ sym is.3 in
-            let read : decimal_at low high (b ∷ more) ≡ Ok (more_digits high is.0 []) = sym (ap (decimal_at low high) same) ∙ taken in
-            cc
-
-pub number_place : {X : Type 0} (value : X → ℕ) (after : X → List ℕ) (result : Result X Broken) (low high : ℕ) (whole bytes : List ℕ) → high < 2 ^ 128 → low ≤ 1 → low ≤ high → whole ≡ 32 ∷ bytes
-    → Tells (λ x. (value x, after x)) result (decimal_at low high bytes) → IfErr result (λ e. Leave (IsNumber low high) whole e.left)
-number_place value after (Ok x) low high whole bytes fits one order blank h = tt
-number_place value after (Err e) low high whole bytes fits one order blank h =
-    leave_behind (IsDecimal low high) (IsNumber low high) (32 ∷ []) bytes whole e.left blank
-    (λ t is. (is.0, is.1, is.2, ap (λ l. 32 ∷ l) is.3)) (λ t is. (is.0, is.1, is.2, cc (is.3))) (decimal_place low high e.left bytes fits one order h)

@@ -1,14 +1,13 @@
 -- What is read of a hexadecimal number.
-use Rattle.std.proofs.Common.{◌≡◌, ℕ, zero, suc, ◌+◌, ◌-◌, ◌*◌, ◌/◌, ◌%◌, ◌^◌, ◌<◌, ◌≤◌, List, [], ◌∷◌, ◌++◌, Bool, true, false, cond, Ok, Err, Result, IfOk, IfErr, subst, refl, arith, ap, sym, ◌∙◌, length}
+use Rattle.std.proofs.Common.{◌≡◌, ℕ, zero, suc, ◌+◌, ◌-◌, ◌*◌, ◌/◌, ◌%◌, ◌^◌, ◌<◌, ◌≤◌, List, [], ◌∷◌, ◌++◌, Bool, true, false, cond, Ok, Err, Result, IfOk, subst, refl, arith, ap, sym, ◌∙◌, length}
 use Rattle.std.proofs.lemmas.Nat.{pow-add, shr-shr, shr_below, pow_pos}
 use Rattle.std.proofs.Math.Nat.{pow-le-pow_right, lt-div-mul-add, mul-le-mul_right, mul-div_cancel}
 use Rattle.std.proofs.lemmas.Bool.Decides.{nat_tests}
 use Rattle.std.proofs.Common.{lt-ltb}
-use Rattle.lz_lines.specs.Fields.{field, hex, hex_digits, hex_digit}
-use Rattle.lz_lines.specs.Readers.{Gives}
+use Rattle.lz_lines.specs.Fields.{IsHex, field, hex, hex_digits, hex_digit}
 use Rattle.lz_lines.specs.Digits.{Tells, is_hex, hex_value, more_hex, is_top, hex_at}
-use Rattle.lz_lines.specs.Places.{IsHex, Leave}
-use Rattle.lz_lines.proofs.Places.{leave_behind, leave_now}
+use Rattle.lz_lines.specs.Forms.{Takes, Breaks, Reads, Anything}
+use Rattle.lz_lines.proofs.Forms.{after_byte, after_breaks, after_reads, breaks_now}
 use Rattle.lz_lines.specs.declared.reading.Broken.{Broken}
 
 power_grows : (i j : ℕ) → i ≤ j → 2 ^ i ≤ 2 ^ j
@@ -40,7 +39,7 @@ digit_was : (b : ℕ) → is_hex b ≡ true → (hex_value b < 16) × (hex_digit
 digit_was b h = grind (arith, nat_tests)
 
 -- the most significant digit stands first
-front : (k n : ℕ) → hex_digits (suc k) n ≡ hex_digit (n / 2 ^ (4 * k) % 16) ∷ hex_digits k n
+pub front : (k n : ℕ) → hex_digits (suc k) n ≡ hex_digit (n / 2 ^ (4 * k) % 16) ∷ hex_digits k n
 front zero n = let e : n / 2 ^ 0 % 16 ≡ n % 16 = omega arith in rw e refl
 front (suc k) n =
     let e : n / 16 / 2 ^ (4 * k) ≡ n / 2 ^ (4 * suc k) = shr-shr n 4 (4 * k) ∙ ap (λ j. n / 2 ^ j) (omega arith) in
@@ -122,15 +121,15 @@ hex_again width n rest low fits =
     ap (λ l. hex_at width (l ++ rest)) (digits_suc width n low ∙ front k n ∙ ap (λ d. hex_digit d ∷ hex_digits k n) same) ∙ rw (tests, reads) (more_again k n top rest refl)
 
 -- what is read is spelled so
-record Takes (width n : ℕ) (bytes rest : List ℕ) : Type 0 where
+record Found (width n : ℕ) (bytes rest : List ℕ) : Type 0 where
   fits : n < 2 ^ width
   split : bytes ≡ hex width n ++ rest
 
-hex_takes : (width n : ℕ) (bytes rest : List ℕ) → 1 ≤ width → hex_at width bytes ≡ Ok (n, rest) → Takes width n bytes rest
+hex_takes : (width n : ℕ) (bytes rest : List ℕ) → 1 ≤ width → hex_at width bytes ≡ Ok (n, rest) → Found width n bytes rest
 hex_takes width n [] rest low h = cc
 hex_takes width n (b ∷ bs) rest low h = at (is_top width b) refl h
   where
-    at : (t : Bool) → is_top width b ≡ t → cond t (more_hex ((width + 3) / 4 - 1) (hex_value b) bs) (Err (length (b ∷ bs))) ≡ Ok (n, rest) → Takes width n (b ∷ bs) rest
+    at : (t : Bool) → is_top width b ≡ t → cond t (more_hex ((width + 3) / 4 - 1) (hex_value b) bs) (Err (length (b ∷ bs))) ≡ Ok (n, rest) → Found width n (b ∷ bs) rest
     at false t e = cc
     at true t e =
         let k = (width + 3) / 4 - 1 in
@@ -152,51 +151,42 @@ hex_found value after (Ok x) width whole bytes low blank h =
     (t.fits, blank ∙ ap (λ l. 32 ∷ l) t.split)
 hex_found value after (Err e) width whole bytes low blank h = tt
 
-pub hex_only : {X : Type 0} (value : X → ℕ) (after : X → List ℕ) (result : Result X Broken) (width n : ℕ) (whole bytes rest : List ℕ) → 1 ≤ width → whole ≡ 32 ∷ bytes
-    → Tells (λ x. (value x, after x)) result (hex_at width bytes) → n < 2 ^ width → whole ≡ field (hex width n) ++ rest → Gives value after result n rest
-hex_only value after (Ok x) width n whole bytes rest low blank h fits is =
-    let same : bytes ≡ hex width n ++ rest = cc in
-    let again = hex_again width n rest low fits in
-    let e : (value x, after x) ≡ (n, rest) = cc in
-    (ap (λ (r : ℕ × List ℕ). r.0) e, ap (λ (r : ℕ × List ℕ). r.1) e)
-hex_only value after (Err e) width n whole bytes rest low blank h fits is =
-    let same : bytes ≡ hex width n ++ rest = cc in
-    let again = hex_again width n rest low fits in
-    cc
-
 -- the digits of a number behind the bits that stand before them
-abbrev IsDigits : ℕ → ℕ → List ℕ → Type 0
-IsDigits k high text = (n : ℕ) × (n / 2 ^ (4 * k) ≡ high) × (text ≡ hex_digits k n)
+abbrev IsDigits : ℕ → ℕ → ℕ → List ℕ → Type 0
+IsDigits k high n text = (n / 2 ^ (4 * k) ≡ high) × (text ≡ hex_digits k n)
 
-some_digits : (k high : ℕ) → IsDigits k high (hex_digits k (high * 2 ^ (4 * k)))
-some_digits k high = (high * 2 ^ (4 * k), mul-div_cancel high (pow_pos (4 * k)), refl)
+some_digits : (k high : ℕ) → IsDigits k high (high * 2 ^ (4 * k)) (hex_digits k (high * 2 ^ (4 * k)))
+some_digits k high = (mul-div_cancel high (pow_pos (4 * k)), refl)
+
+not_empty : (k high n : ℕ) → IsDigits (suc k) high n [] → ⊥
+not_empty k high n is = let first = is.1 ∙ front k n in cc (first)
 
 -- a digit stands first
-no_digit : (k high b : ℕ) → is_hex b ≡ false → (more : List ℕ) → IsDigits (suc k) high (b ∷ more) → ⊥
-no_digit k high b t more is =
-    let first : b ∷ more ≡ hex_digit (is.0 / 2 ^ (4 * k) % 16) ∷ hex_digits k is.0 = is.2 ∙ front k is.0 in
-    let same : b ≡ hex_digit (is.0 / 2 ^ (4 * k) % 16) = cc in
-    let digit = (digit_is (is.0 / 2 ^ (4 * k) % 16) (omega arith)).0 in
+no_digit : (k high b : ℕ) → is_hex b ≡ false → (n : ℕ) (more : List ℕ) → IsDigits (suc k) high n (b ∷ more) → ⊥
+no_digit k high b t n more is =
+    let first : b ∷ more ≡ hex_digit (n / 2 ^ (4 * k) % 16) ∷ hex_digits k n = is.1 ∙ front k n in
+    let same : b ≡ hex_digit (n / 2 ^ (4 * k) % 16) = cc in
+    let digit = (digit_is (n / 2 ^ (4 * k) % 16) (omega arith)).0 in
     let no : false ≡ true = sym t ∙ ap is_hex same ∙ digit in
     cc
 
 -- the bits of a first digit, and those behind it
-digit_on : (k high b : ℕ) → is_hex b ≡ true → (t : List ℕ) → IsDigits k (high * 16 + hex_value b) t → IsDigits (suc k) high (b ∷ t)
-digit_on k high b h t is =
+digit_on : (k high b : ℕ) → is_hex b ≡ true → (n : ℕ) (t : List ℕ) → IsDigits k (high * 16 + hex_value b) n t → IsDigits (suc k) high n (b ∷ t)
+digit_on k high b h n t is =
     let was = digit_was b h in
     let small = was.0 in
-    let over : is.0 / 2 ^ (4 * suc k) ≡ high = ap (λ j. is.0 / 2 ^ j) (omega arith) ∙ sym (shr-shr is.0 (4 * k) 4) ∙ ap (λ x. x / 16) is.1 ∙ omega arith in
-    let low : is.0 / 2 ^ (4 * k) % 16 ≡ hex_value b = ap (λ x. x % 16) is.1 ∙ omega arith in
-    (is.0, over, ap (λ l. b ∷ l) is.2 ∙ ap (λ x. x ∷ hex_digits k is.0) (sym was.1 ∙ ap hex_digit (sym low)) ∙ sym (front k is.0))
+    let over : n / 2 ^ (4 * suc k) ≡ high = ap (λ j. n / 2 ^ j) (omega arith) ∙ sym (shr-shr n (4 * k) 4) ∙ ap (λ x. x / 16) is.0 ∙ omega arith in
+    let low : n / 2 ^ (4 * k) % 16 ≡ hex_value b = ap (λ x. x % 16) is.0 ∙ omega arith in
+    (over, ap (λ l. b ∷ l) is.1 ∙ ap (λ x. x ∷ hex_digits k n) (sym was.1 ∙ ap hex_digit (sym low)) ∙ sym (front k n))
 
-digit_off : (k high b : ℕ) (t : List ℕ) → IsDigits (suc k) high (b ∷ t) → IsDigits k (high * 16 + hex_value b) t
-digit_off k high b t is =
-    let top = is.0 / 2 ^ (4 * k) in
-    let first : b ∷ t ≡ hex_digit (top % 16) ∷ hex_digits k is.0 = is.2 ∙ front k is.0 in
+digit_off : (k high b n : ℕ) (t : List ℕ) → IsDigits (suc k) high n (b ∷ t) → IsDigits k (high * 16 + hex_value b) n t
+digit_off k high b n t is =
+    let top = n / 2 ^ (4 * k) in
+    let first : b ∷ t ≡ hex_digit (top % 16) ∷ hex_digits k n = is.1 ∙ front k n in
     let same : b ≡ hex_digit (top % 16) = cc in
     let value : hex_value b ≡ top % 16 = ap hex_value same ∙ (digit_is (top % 16) (omega arith)).1 in
-    let over : top / 16 ≡ high = shr-shr is.0 (4 * k) 4 ∙ ap (λ j. is.0 / 2 ^ j) (omega arith) ∙ is.1 in
-    (is.0, omega (arith, over, value), cc (first))
+    let over : top / 16 ≡ high = shr-shr n (4 * k) 4 ∙ ap (λ j. n / 2 ^ j) (omega arith) ∙ is.0 in
+    (omega (arith, over, value), cc (first))
 
 -- the first digit of a number of so many bits
 top_small : (width n : ℕ) → 1 ≤ width → n < 2 ^ width → (n / 2 ^ (4 * ((width + 3) / 4 - 1)) < 16) × (n / 2 ^ (4 * ((width + 3) / 4 - 1)) < 2 ^ ((width + 3) % 4 + 1))
@@ -213,66 +203,97 @@ first_of width b n t low fits is =
     let first : b ∷ t ≡ hex_digit (n / 2 ^ (4 * k)) ∷ hex_digits k n = is ∙ digits_suc width n low ∙ front k n ∙ ap (λ d. hex_digit d ∷ hex_digits k n) same in
     (cc (first), cc (first))
 
-no_top : (width b : ℕ) → 1 ≤ width → is_top width b ≡ false → (more : List ℕ) → (n : ℕ) × (n < 2 ^ width) × (b ∷ more ≡ hex width n) → ⊥
-no_top width b low t more is =
-    let first = first_of width b is.0 more low is.1 is.2 in
-    let small = top_small width is.0 low is.1 in
-    let digit = digit_is (is.0 / 2 ^ (4 * ((width + 3) / 4 - 1))) small.0 in
+-- a number, without its blank
+abbrev IsHexText : ℕ → ℕ → List ℕ → Type 0
+IsHexText width n text = (n < 2 ^ width) × (text ≡ hex width n)
+
+some_text : (width n : ℕ) → 1 ≤ width → IsHexText width n [] → ⊥
+some_text width n low is = let first = is.1 ∙ digits_suc width n low ∙ front ((width + 3) / 4 - 1) n in cc (first)
+
+no_top : (width b : ℕ) → 1 ≤ width → is_top width b ≡ false → (n : ℕ) (more : List ℕ) → IsHexText width n (b ∷ more) → ⊥
+no_top width b low t n more is =
+    let first = first_of width b n more low is.0 is.1 in
+    let small = top_small width n low is.0 in
+    let digit = digit_is (n / 2 ^ (4 * ((width + 3) / 4 - 1))) small.0 in
     let no : false ≡ true = sym t ∙ ap (is_top width) first.0 ∙ top_is width _ digit.0 digit.1 small.1 in
     cc
 
-top_on : (width b : ℕ) → 1 ≤ width → is_top width b ≡ true → (t : List ℕ) → IsDigits ((width + 3) / 4 - 1) (hex_value b) t → (n : ℕ) × (n < 2 ^ width) × (b ∷ t ≡ hex width n)
-top_on width b low h t is =
+top_on : (width b : ℕ) → 1 ≤ width → is_top width b ≡ true → (n : ℕ) (t : List ℕ) → IsDigits ((width + 3) / 4 - 1) (hex_value b) n t → IsHexText width n (b ∷ t)
+top_on width b low h n t is =
     let k = (width + 3) / 4 - 1 in
     let was = top_was width b h in
     let back = (digit_was b was.0).1 in
     let small = (digit_was b was.0).0 in
-    let same : is.0 / 2 ^ (4 * k) % 16 ≡ hex_value b = ap (λ x. x % 16) is.1 ∙ omega arith in (
-      is.0,
-      rw (bits width low) (below_from is.0 (4 * k) ((width + 3) % 4 + 1) (omega (arith, is.1, was.1))),
-      ap (λ l. b ∷ l) is.2 ∙ ap (λ x. x ∷ hex_digits k is.0) (sym back ∙ ap hex_digit (sym same)) ∙ sym (front k is.0) ∙ sym (digits_suc width is.0 low),
+    let same : n / 2 ^ (4 * k) % 16 ≡ hex_value b = ap (λ x. x % 16) is.0 ∙ omega arith in (
+      rw (bits width low) (below_from n (4 * k) ((width + 3) % 4 + 1) (omega (arith, is.0, was.1))),
+      ap (λ l. b ∷ l) is.1 ∙ ap (λ x. x ∷ hex_digits k n) (sym back ∙ ap hex_digit (sym same)) ∙ sym (front k n) ∙ sym (digits_suc width n low),
     )
 
-top_off : (width b : ℕ) → 1 ≤ width → (t : List ℕ) → (n : ℕ) × (n < 2 ^ width) × (b ∷ t ≡ hex width n) → IsDigits ((width + 3) / 4 - 1) (hex_value b) t
-top_off width b low t is =
-    let first = first_of width b is.0 t low is.1 is.2 in
-    let digit = digit_is (is.0 / 2 ^ (4 * ((width + 3) / 4 - 1))) (top_small width is.0 low is.1).0 in
-    (is.0, sym (ap hex_value first.0 ∙ digit.1), first.1)
+top_off : (width b : ℕ) → 1 ≤ width → (n : ℕ) (t : List ℕ) → IsHexText width n (b ∷ t) → IsDigits ((width + 3) / 4 - 1) (hex_value b) n t
+top_off width b low n t is =
+    let first = first_of width b n t low is.0 is.1 in
+    let digit = digit_is (n / 2 ^ (4 * ((width + 3) / 4 - 1))) (top_small width n low is.0).0 in
+    (sym (ap hex_value first.0 ∙ digit.1), first.1)
 
 -- where a digit is none, no number goes on
-more_place : (k high left : ℕ) (bytes : List ℕ) → more_hex k high bytes ≡ Err left → Leave (IsDigits k high) bytes left
-more_place zero high left bytes h = cc
-more_place (suc k) high left [] h =
+more_breaks : (k high left : ℕ) (bytes : List ℕ) → more_hex k high bytes ≡ Err left → Breaks (IsDigits k high) Anything bytes left
+more_breaks zero high left bytes h = cc
+more_breaks (suc k) high left [] h =
     let none : 0 ≡ left = cc in
-    subst (λ l. Leave (IsDigits (suc k) high) [] l) none (leave_now (IsDigits (suc k) high) [] _ (some_digits (suc k) high) tt)
-more_place (suc k) high left (b ∷ bs) h = at (more_place k (high * 16 + hex_value b) left bs) (is_hex b) refl h
+    subst (λ l. Breaks (IsDigits (suc k) high) Anything [] l) none (breaks_now (IsDigits (suc k) high) Anything [] (high * 2 ^ (4 * suc k)) _ (some_digits (suc k) high) (not_empty k high) tt)
+more_breaks (suc k) high left (b ∷ bs) h = at (more_breaks k (high * 16 + hex_value b) left bs) (is_hex b) refl h
   where
-    at : (more_hex k (high * 16 + hex_value b) bs ≡ Err left → Leave (IsDigits k (high * 16 + hex_value b)) bs left)
-        → (t : Bool) → is_hex b ≡ t → cond t (more_hex k (high * 16 + hex_value b) bs) (Err (length (b ∷ bs))) ≡ Err left → Leave (IsDigits (suc k) high) (b ∷ bs) left
+    at : (more_hex k (high * 16 + hex_value b) bs ≡ Err left → Breaks (IsDigits k (high * 16 + hex_value b)) Anything bs left)
+        → (t : Bool) → is_hex b ≡ t → cond t (more_hex k (high * 16 + hex_value b) bs) (Err (length (b ∷ bs))) ≡ Err left → Breaks (IsDigits (suc k) high) Anything (b ∷ bs) left
     at more false t e =
         let all : length (b ∷ bs) ≡ left = cc in
-        subst (λ l. Leave (IsDigits (suc k) high) (b ∷ bs) l) all (leave_now (IsDigits (suc k) high) (b ∷ bs) _ (some_digits (suc k) high) (no_digit k high b t))
-    at more true t e = leave_behind (IsDigits k (high * 16 + hex_value b)) (IsDigits (suc k) high) (b ∷ []) bs (b ∷ bs) left refl (digit_on k high b t) (digit_off k high b) (more e)
+        subst (λ l. Breaks (IsDigits (suc k) high) Anything (b ∷ bs) l) all
+        (breaks_now (IsDigits (suc k) high) Anything (b ∷ bs) (high * 2 ^ (4 * suc k)) _ (some_digits (suc k) high) (not_empty k high) (no_digit k high b t))
+    at more true t e =
+        after_breaks (after_byte (IsDigits (suc k) high) (IsDigits k (high * 16 + hex_value b)) Anything b (b ∷ bs) bs refl (not_empty k high) (digit_on k high b t) (digit_off k high b)) (more e)
 
--- where a number is refused, no number goes on
-abbrev IsHexText : ℕ → List ℕ → Type 0
-IsHexText width text = (n : ℕ) × (n < 2 ^ width) × (text ≡ hex width n)
-
-hex_place_at : (width left : ℕ) (bytes : List ℕ) → 1 ≤ width → hex_at width bytes ≡ Err left → Leave (IsHexText width) bytes left
-hex_place_at width left [] low h =
+-- where a number is refused, none goes on
+hex_breaks : (width left : ℕ) (bytes : List ℕ) → 1 ≤ width → hex_at width bytes ≡ Err left → Breaks (IsHexText width) Anything bytes left
+hex_breaks width left [] low h =
     let none : 0 ≡ left = cc in
-    subst (λ l. Leave (IsHexText width) [] l) none (leave_now (IsHexText width) [] (hex width 0) (0, pow_pos width, refl) tt)
-hex_place_at width left (b ∷ bs) low h = at (is_top width b) refl h
+    subst (λ l. Breaks (IsHexText width) Anything [] l) none (breaks_now (IsHexText width) Anything [] 0 (hex width 0) (pow_pos width, refl) (λ n is. some_text width n low is) tt)
+hex_breaks width left (b ∷ bs) low h = at (is_top width b) refl h
   where
-    at : (t : Bool) → is_top width b ≡ t → cond t (more_hex ((width + 3) / 4 - 1) (hex_value b) bs) (Err (length (b ∷ bs))) ≡ Err left → Leave (IsHexText width) (b ∷ bs) left
+    at : (t : Bool) → is_top width b ≡ t → cond t (more_hex ((width + 3) / 4 - 1) (hex_value b) bs) (Err (length (b ∷ bs))) ≡ Err left → Breaks (IsHexText width) Anything (b ∷ bs) left
     at false t e =
         let all : length (b ∷ bs) ≡ left = cc in
-        subst (λ l. Leave (IsHexText width) (b ∷ bs) l) all (leave_now (IsHexText width) (b ∷ bs) (hex width 0) (0, pow_pos width, refl) (no_top width b low t))
-    at true t e = leave_behind (IsDigits ((width + 3) / 4 - 1) (hex_value b)) (IsHexText width) (b ∷ []) bs (b ∷ bs) left refl (top_on width b low t) (top_off width b low)
-        (more_place ((width + 3) / 4 - 1) (hex_value b) left bs e)
+        subst (λ l. Breaks (IsHexText width) Anything (b ∷ bs) l) all
+        (breaks_now (IsHexText width) Anything (b ∷ bs) 0 (hex width 0) (pow_pos width, refl) (λ n is. some_text width n low is) (no_top width b low t))
+    at true t e =
+        after_breaks
+        (after_byte (IsHexText width) (IsDigits ((width + 3) / 4 - 1) (hex_value b)) Anything b (b ∷ bs) bs refl (λ n is. some_text width n low is) (top_on width b low t) (top_off width b low))
+        (more_breaks ((width + 3) / 4 - 1) (hex_value b) left bs e)
 
-pub hex_place : {X : Type 0} (value : X → ℕ) (after : X → List ℕ) (result : Result X Broken) (width : ℕ) (whole bytes : List ℕ) → 1 ≤ width → whole ≡ 32 ∷ bytes
-    → Tells (λ x. (value x, after x)) result (hex_at width bytes) → IfErr result (λ e. Leave (IsHex width) whole e.left)
-hex_place value after (Ok x) width whole bytes low blank h = tt
-hex_place value after (Err e) width whole bytes low blank h =
-    leave_behind (IsHexText width) (IsHex width) (32 ∷ []) bytes whole e.left blank (λ t is. (is.0, is.1, ap (λ l. 32 ∷ l) is.2)) (λ t is. (is.0, is.1, cc (is.2))) (hex_place_at width e.left bytes low h)
+-- what a number is taken for
+hex_taken : (width n : ℕ) (bytes rest : List ℕ) → 1 ≤ width → hex_at width bytes ≡ Ok (n, rest) → Takes (IsHexText width) Anything bytes n rest
+hex_taken width n bytes rest low h =
+    let t = hex_takes width n bytes rest low h in
+    record {
+      front = hex width n;
+      is = (t.fits, refl);
+      split = t.split;
+      only = λ u text behind other is any alike e.
+          let here = hex_again width n other low t.fits in
+          let there = hex_again width u behind low is.0 in
+          let both : Ok (u, behind) ≡ Ok (n, other) = sym there ∙ ap (λ l. hex_at width (l ++ behind)) (sym is.1) ∙ ap (hex_at width) (sym e) ∙ here in
+          let pair : (u, behind) ≡ (n, other) = cc in
+          (ap (λ (r : ℕ × List ℕ). r.0) pair, sym (ap (λ (r : ℕ × List ℕ). r.1) pair));
+    }
+
+hex_text_reads : {X : Type 0} (value : X → ℕ) (after : X → List ℕ) (result : Result X Broken) (width : ℕ) (bytes : List ℕ) → 1 ≤ width
+    → Tells (λ x. (value x, after x)) result (hex_at width bytes) → Reads (IsHexText width) Anything value after bytes result
+hex_text_reads value after (Ok x) width bytes low h = hex_taken width (value x) bytes (after x) low h
+hex_text_reads value after (Err e) width bytes low h = hex_breaks width e.left bytes low h
+
+-- and behind the blank
+pub hex_reads : {X : Type 0} (value : X → ℕ) (after : X → List ℕ) (result : Result X Broken) (width : ℕ) (whole bytes : List ℕ) → 1 ≤ width → whole ≡ 32 ∷ bytes
+    → Tells (λ x. (value x, after x)) result (hex_at width bytes) → Reads (IsHex width) Anything value after whole result
+hex_reads value after result width whole bytes low blank h =
+    after_reads value after result
+    (after_byte (IsHex width) (IsHexText width) Anything 32 whole bytes blank (λ v is. cc (is.1)) (λ v text is. (is.0, ap (λ l. 32 ∷ l) is.1)) (λ v text is. (is.0, cc (is.1))))
+    (hex_text_reads value after result width bytes low h)

@@ -1,6 +1,7 @@
 pub mod Fields
 pub mod Readers
 pub mod Digits
-pub mod Choice
 pub mod Unread
 pub mod Places
+pub mod Forms
+pub mod Keywords

@@ -1,8 +1,7 @@
--- Where bytes leave the texts of a kind.
-use Rattle.std.specs.Prelude.{◌≡◌, ℕ, ◌+◌, ◌-◌, ◌*◌, ◌<◌, ◌≤◌, ◌^◌, List, [], ◌∷◌, ◌++◌, length, true, IsTrue, ⊤}
-use Rattle.lz_base.specs.Names.{is_name}
-use Rattle.lz_lines.specs.Fields.{field, number, hex}
-use Rattle.lz_lines.specs.Readers.{is_digit}
+-- How far some text of a kind begins as bytes do.
+use Rattle.std.specs.Prelude.{◌≡◌, ℕ, List, [], ◌∷◌, ◌++◌, length, ⊤}
+use Rattle.lz_base.specs.declared.rule.Rule.{Rule}
+use Rattle.lz_base.specs.declared.fault.Fault.{Fault}
 
 -- some text begins so
 abbrev pub Begins : (List ℕ → Type 0) → List ℕ → Type 0
@@ -13,28 +12,21 @@ abbrev pub NoneGoesOn : (List ℕ → Type 0) → List ℕ → List ℕ → Type
 NoneGoesOn IsText front [] = ⊤
 NoneGoesOn IsText front (b ∷ bs) = (more : List ℕ) → IsText (front ++ b ∷ more) → ⊥
 
--- So many bytes are left behind the longest front of the bytes with which some text begins.
-pub record Leave (IsText : List ℕ → Type 0) (bytes : List ℕ) (left : ℕ) : Type 0 where
+-- The place is the length of the longest front of the bytes with which some text begins.
+pub record IsPlace (IsText : List ℕ → Type 0) (bytes : List ℕ) (place : ℕ) : Type 0 where
   pub front : List ℕ
   pub back : List ℕ
   pub split : bytes ≡ front ++ back
-  pub size : left ≡ length back
+  pub size : place ≡ length front
   pub begins : Begins IsText front
   pub stuck : NoneGoesOn IsText front back
 
--- a number between two bounds, behind its blank
-abbrev pub IsNumber : ℕ → ℕ → List ℕ → Type 0
-IsNumber low high text = (n : ℕ) × (low ≤ n) × (n ≤ high) × (text ≡ number n)
+-- some value has this text
+abbrev pub HasText : {V : Type 0} → (V → List ℕ → Type 0) → List ℕ → Type 0
+HasText Is text = (value : _) × Is value text
 
--- a hexadecimal number of so many bits, behind its blank
-abbrev pub IsHex : ℕ → List ℕ → Type 0
-IsHex width text = (n : ℕ) × (n < 2 ^ width) × (text ≡ field (hex width n))
-
--- a name, behind its blank
-abbrev pub IsNameField : List ℕ → Type 0
-IsNameField text = (name : List ℕ) × IsTrue (is_name name) × (text ≡ field name)
-
--- No further digit belongs to the number: it would stand behind a 0, or make the number greater than its bound.
-abbrev pub EndsNumber : ℕ → ℕ → List ℕ → Type 0
-EndsNumber high n [] = ⊤
-EndsNumber high n (b ∷ bs) = is_digit b ≡ true → 0 < n → n * 10 + (b - 48) ≤ high → ⊥
+-- The bytes are no text of the form, and the fault stands where they leave its texts.
+pub record IsUnreadable {V : Type 0} (Is : V → List ℕ → Type 0) (rule : Rule) (bytes : List ℕ) (fault : Fault) : Type 0 where
+  pub broken : fault.rule ≡ rule
+  pub place : IsPlace (HasText Is) bytes fault.at
+  pub none : (value : V) → Is value bytes → ⊥

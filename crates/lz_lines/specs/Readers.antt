@@ -1,16 +1,6 @@
--- What a reader of a field answers.
-use Rattle.std.specs.Prelude.{◌≡◌, ℕ, List, [], ◌∷◌, Bool, false, Result, Ok, Err, ⊤}
+-- What stands at the front of bytes.
+use Rattle.std.specs.Prelude.{◌≡◌, ℕ, List, [], ◌∷◌, Bool, false, ◌==◌, ◌&&◌, ◌||◌, nat_lt, ⊤}
 use Rattle.lz_base.specs.Names.{is_between, is_name_start}
-
--- the answer, seen so, is these bytes
-abbrev pub Leaves : {X E : Type 0} → (X → List ℕ) → Result X E → List ℕ → Type 0
-Leaves after (Ok x) rest = after x ≡ rest
-Leaves after (Err e) rest = ⊥
-
--- the answer, seen so, is this value with these bytes after it
-abbrev pub Gives : {X A E : Type 0} → (X → A) → (X → List ℕ) → Result X E → A → List ℕ → Type 0
-Gives value after (Ok x) a rest = (value x ≡ a) × (after x ≡ rest)
-Gives value after (Err e) a rest = ⊥
 
 -- the bytes begin with none of these
 abbrev pub BeginsWithout : (ℕ → Bool) → List ℕ → Type 0
@@ -25,3 +15,12 @@ is_digit b = is_between 48 57 b
 abbrev pub begins_name : List ℕ → Bool
 begins_name [] = false
 begins_name (b ∷ bs) = is_name_start b
+
+-- a blank stands at the front
+abbrev pub begins_field : List ℕ → Bool
+begins_field [] = false
+begins_field (b ∷ bs) = b == 32
+
+-- one more number has to come behind so many, or comes and may
+abbrev pub wants_number : ℕ → ℕ → ℕ → List ℕ → Bool
+wants_number count low high bytes = nat_lt count low || (nat_lt count high && begins_field bytes)

@@ -1,5 +1,5 @@
 -- Why a part of a text was not read.
-use Rattle.std.specs.Prelude.{◌≡◌, ℕ, ◌-◌, ◌≤◌, List, Result, Ok, Err, ⊤}
+use Rattle.std.specs.Prelude.{ℕ, ◌-◌, ◌≤◌, ⊤}
 use Rattle.lz_base.specs.declared.rule.Rule.{Rule}
 use Rattle.lz_base.specs.declared.fault.Stop.{Stop}
 use Rattle.lz_base.specs.declared.fault.Stop.TheVariants as stop
@@ -15,18 +15,3 @@ IsWithin length OutOfMemory = ⊤
 abbrev pub stop_of : ℕ → Rule → Unread → Stop
 stop_of length rule (Broken e) = stop.Fault (record { rule = rule; at = length - e.left })
 stop_of length rule OutOfMemory = stop.OutOfMemory
-
--- memory was wanted
-abbrev pub IsWant : Unread → Type 0
-IsWant (Broken e) = ⊥
-IsWant OutOfMemory = ⊤
-
--- want of memory aside, the answer is this value with these bytes after it
-abbrev pub Brings : {X A : Type 0} → (X → A) → (X → List ℕ) → Result X Unread → A → List ℕ → Type 0
-Brings value after (Ok x) a rest = (value x ≡ a) × (after x ≡ rest)
-Brings value after (Err e) a rest = IsWant e
-
--- the same of an answer with no bytes after it
-abbrev pub Makes : {X A : Type 0} → (X → A) → Result X Unread → A → Type 0
-Makes value (Ok x) a = value x ≡ a
-Makes value (Err e) a = IsWant e

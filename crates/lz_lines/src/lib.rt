@@ -1,19 +1,28 @@
 //! The fields of lines, as all texts of the product are made of them: one printer and one reader for each.
 //!
-//! It stands on `lz_base`. A printer appends the one spelling of its field, and nothing else.
+//! It stands on `lz_base`. A printer appends the one spelling of its field, and nothing else. A reader takes one field
+//! from the front of the bytes, or says how many bytes are left behind the longest front with which such a field
+//! begins. `specs/Forms` says what a form is and what a reader of one answers, and `proofs/Forms` has the laws by which
+//! readers of fields make up the reader of a line, and readers of lines that of a whole text.
 #![tactic(auto)]
 
+mod bits;
+mod ends;
 mod names;
+mod numbers;
 mod printing;
 mod reading;
 mod unread;
 mod words;
 
+pub use bits::read_bit;
+pub use ends::end_line;
 pub use names::read_name;
-pub use printing::{push_field, push_hex, push_line_end, push_number};
+pub use numbers::read_numbers;
+pub use printing::{push_bit, push_field, push_hex, push_line_end, push_number};
 pub use reading::{Broken, read_end, read_hex, read_number, read_word};
 pub use unread::Unread;
-pub use words::Choice;
+pub use words::{Keyword, read_key};
 
 #[cfg(test)]
 mod tests;

@@ -1,20 +1,19 @@
-ghost use Rattle.std.specs.Prelude.{◌≡◌, true, ◌++◌, ◌≤◌, List, ℕ, IsTrue, length, take, drop, IfOk, IfErr};
+ghost use Rattle.std.specs.Prelude.{◌≡◌, true, ◌++◌, ◌≤◌, List, ℕ, length, take, drop, IfOk, IfErr};
 ghost use Rattle.std.specs.List.{list_all};
-ghost use Rattle.lz_base.specs.Names.{is_name, is_name_byte, is_name_start};
-ghost use Rattle.lz_lines.specs.Fields.{field};
-ghost use Rattle.lz_lines.specs.Places.{IsNameField, Leave};
-ghost use Rattle.lz_lines.specs.Readers.{Gives, BeginsWithout, begins_name};
+ghost use Rattle.lz_base.specs.Names.{IsName, is_name_byte};
+ghost use Rattle.lz_lines.specs.Fields.{IsNameField, field};
+ghost use Rattle.lz_lines.specs.Forms.{Parted, Reads};
+ghost use Rattle.lz_lines.specs.Readers.{BeginsWithout, begins_name};
 
 use crate::reading::{Broken, after_blank};
+use lz_base::{is_name_byte, is_name_start};
 
 /// Takes a blank and a name, which ends before the first byte that no name has, and gives what is left after it. The
 /// fault is at the blank or at the first byte of the name.
 pub fn read_name<'a>(bytes: &'a [u8]) -> Result<(&'a [u8], &'a [u8]), Broken>
-    ensures found { IfOk result (λ r. IsTrue (is_name r.0.now) × (bytes.now ≡ field r.0.now ++ r.1.now)) }
-    ensures only { (name rest : List ℕ) → IsTrue (is_name name) → BeginsWithout is_name_byte rest → bytes.now ≡ field name ++ rest → Gives (λ r. r.0.now) (λ r. r.1.now) result name rest }
-    ensures end { IfOk result (λ r. BeginsWithout is_name_byte r.1.now) }
+    ensures found { IfOk result (λ r. IsName r.0.now × (bytes.now ≡ field r.0.now ++ r.1.now)) }
     ensures left { IfErr result (λ e. e.left ≤ length bytes.now) }
-    ensures place { IfErr result (λ e. Leave IsNameField bytes.now e.left) }
+    ensures reads { Reads IsNameField Parted (λ r. r.0.now) (λ r. r.1.now) bytes.now result }
 {
     let Some(rest) = after_blank(bytes) else {
         return Err(Broken { left: bytes.len() });
@@ -46,16 +45,4 @@ fn name_length(bytes: &[u8]) -> usize
         }
     }
     bytes.len()
-}
-
-fn is_name_start(byte: u8) -> bool
-    ensures { result ≡ is_name_start byte }
-{
-    (b'a' <= byte && byte <= b'z') || (b'A' <= byte && byte <= b'Z') || byte == b'_'
-}
-
-fn is_name_byte(byte: u8) -> bool
-    ensures { result ≡ is_name_byte byte }
-{
-    is_name_start(byte) || (b'0' <= byte && byte <= b'9') || byte == b'$'
 }

@@ -1,8 +1,8 @@
 ghost use Rattle.std.specs.Prelude.{◌≡◌, ◌<◌, ◌≤◌, ◌++◌, ◌∷◌, [], OnOk};
-ghost use Rattle.lz_lines.specs.Fields.{field, number, hex, hex_digit, hex_digits};
+ghost use Rattle.lz_lines.specs.Fields.{bit, field, number, hex, hex_digit, hex_digits};
 
+use itoa::Buffer;
 use lz_base::OutOfMemory;
-use std::alloc::Global;
 
 /// Appends a blank and the bytes of a field, such as a name.
 pub fn push_field(out: &mut Vec<u8>, bytes: &[u8]) -> Result<(), OutOfMemory>
@@ -14,12 +14,20 @@ pub fn push_field(out: &mut Vec<u8>, bytes: &[u8]) -> Result<(), OutOfMemory>
 }
 
 /// Appends a blank and the number in decimal, without leading zeros.
-pub fn push_number(alloc: Global, out: &mut Vec<u8>, n: u128) -> Result<(), OutOfMemory>
+pub fn push_number(out: &mut Vec<u8>, n: u128) -> Result<(), OutOfMemory>
     ensures { OnOk result (out.new.items ≡ out.old.items ++ number n) }
 {
+    let mut digits = Buffer::new();
     out.push(b' ')?;
-    let digits = n.to_string(alloc)?;
-    out.extend_from_slice(digits.as_bytes())?;
+    out.extend_from_slice(digits.format(n).as_bytes())?;
+    Ok(())
+}
+
+/// Appends a blank and `0` or `1`.
+pub fn push_bit(out: &mut Vec<u8>, value: bool) -> Result<(), OutOfMemory>
+    ensures { OnOk result (out.new.items ≡ out.old.items ++ bit value) }
+{
+    out.extend_from_slice(if value { b" 1" } else { b" 0" })?;
     Ok(())
 }
 
@@ -34,13 +42,12 @@ pub fn push_hex(out: &mut Vec<u8>, width: u32, value: u128) -> Result<(), OutOfM
 
 // Appends the last so many hexadecimal digits of a number.
 fn push_digits(out: &mut Vec<u8>, count: u32, value: u128) -> Result<(), OutOfMemory>
+    requires { count ≤ 32 }
     ensures { OnOk result (out.new.items ≡ out.old.items ++ hex_digits count value) }
 {
-    if count == 0 {
-        return Ok(());
+    for i in 0..count {
+        out.push(digit(((value >> (4 * (count - 1 - i))) % 16) as u8))?;
     }
-    push_digits(out, count - 1, value / 16)?;
-    out.push(digit((value % 16) as u8))?;
     Ok(())
 }
 

@@ -1,7 +1,7 @@
-ghost use Rattle.std.specs.Prelude.{true, ◌≡◌, ℕ, ◌+◌, ◌-◌, ◌*◌, ◌^◌, ◌<◌, ◌≤◌, ◌++◌, ◌∷◌, [], List, length, IfOk, IfErr, OnOk, IsOk, IfSome, IfNone};
-ghost use Rattle.lz_lines.specs.Readers.{Gives, Leaves, BeginsWithout, is_digit};
-ghost use Rattle.lz_lines.specs.Places.{EndsNumber, IsHex, IsNumber, Leave};
-ghost use Rattle.lz_lines.specs.Fields.{number, field, hex};
+ghost use Rattle.std.specs.Prelude.{true, ◌≡◌, ℕ, ◌+◌, ◌-◌, ◌*◌, ◌^◌, ◌<◌, ◌≤◌, ◌++◌, ◌∷◌, [], List, length, IfOk, IfErr, OnOk, IsOk, IfSome, IfNone, Err};
+ghost use Rattle.lz_lines.specs.Readers.{is_digit};
+ghost use Rattle.lz_lines.specs.Fields.{IsHex, IsNumber, IsWord, field, hex, number};
+ghost use Rattle.lz_lines.specs.Forms.{Anything, Parted, Reads};
 ghost use Rattle.lz_lines.specs.Digits.{Tells, decimal_at, more_digits, goes_on, is_first, is_hex, hex_value, is_top, hex_at, more_hex};
 
 use thiserror::Error;
@@ -16,9 +16,8 @@ pub struct Broken {
 /// Takes a fixed word from the front, and gives what is left after it. The fault is at the first byte that differs.
 pub fn read_word<'a>(bytes: &'a [u8], word: &[u8]) -> Result<&'a [u8], Broken>
     ensures found { IfOk result (λ rest. bytes.now ≡ word.now ++ rest.now) }
-    ensures only { (rest : List ℕ) → bytes.now ≡ word.now ++ rest → Leaves (λ r. r.now) result rest }
     ensures left { IfErr result (λ e. e.left ≤ length bytes.now) }
-    ensures place { IfErr result (λ e. Leave (λ t. t ≡ word.now) bytes.now e.left) }
+    ensures reads { Reads (IsWord word.now) Anything (λ _. tt) (λ r. r.now) bytes.now result }
 {
     let Some((letter, letters)) = word.split_first() else {
         return Ok(bytes);
@@ -33,8 +32,7 @@ pub fn read_word<'a>(bytes: &'a [u8], word: &[u8]) -> Result<&'a [u8], Broken>
 pub fn read_end(bytes: &[u8]) -> Result<(), Broken>
     ensures found { OnOk result (bytes.now ≡ []) }
     ensures only { bytes.now ≡ [] → IsOk result }
-    ensures left { IfErr result (λ e. e.left ≤ length bytes.now) }
-    ensures place { IfErr result (λ e. Leave (λ t. t ≡ []) bytes.now e.left) }
+    ensures left { IfErr result (λ e. e.left ≡ length bytes.now) }
 {
     if bytes.is_empty() {
         Ok(())
@@ -50,10 +48,8 @@ pub fn read_number<'a>(bytes: &'a [u8], low: u128, high: u128) -> Result<(u128, 
     requires low { low ≤ 1 }
     requires high { low ≤ high }
     ensures found { IfOk result (λ r. (low ≤ r.0) × (r.0 ≤ high) × (bytes.now ≡ number r.0 ++ r.1.now)) }
-    ensures only { (n : ℕ) (rest : List ℕ) → low ≤ n → n ≤ high → BeginsWithout is_digit rest → bytes.now ≡ number n ++ rest → Gives (λ r. r.0) (λ r. r.1.now) result n rest }
-    ensures end { IfOk result (λ r. EndsNumber high r.0 r.1.now) }
     ensures left { IfErr result (λ e. e.left ≤ length bytes.now) }
-    ensures place { IfErr result (λ e. Leave (IsNumber low high) bytes.now e.left) }
+    ensures reads { Reads (IsNumber low high) Parted (λ r. r.0) (λ r. r.1.now) bytes.now result }
 {
     match after_blank(bytes) {
         Some(rest) => decimal(rest, low, high),
@@ -90,13 +86,25 @@ fn decimal<'a>(bytes: &'a [u8], low: u128, high: u128) -> Result<(u128, &'a [u8]
 fn more_digits<'a>(bytes: &'a [u8], value: u128, high: u128) -> (u128, &'a [u8])
     ensures { more_digits high value bytes.now ≡ (result.0, result.1.now) }
 {
+    let mut read = value;
+    let mut left = bytes;
+    while let Some((digit, rest)) = next_digit(left, read, high) {
+        read = read * 10 + u128::from(digit);
+        left = rest;
+    }
+    (read, left)
+}
+
+// The digit with which a number goes on, and what is left after it.
+fn next_digit(bytes: &[u8], value: u128, high: u128) -> Option<(u8, &[u8])>
+    ensures digit { IfSome result (λ r. value * 10 + r.0 ≤ high) }
+    ensures shorter { IfSome result (λ r. length r.1.now < length bytes.now) }
+    ensures found { IfSome result (λ r. more_digits high value bytes.now ≡ more_digits high (value * 10 + r.0) r.1.now) }
+    ensures none { IfNone result (more_digits high value bytes.now ≡ (value, bytes.now)) }
+{
     match bytes.split_first() {
-        Some((digit, rest)) if goes_on(*digit, value, high) => more_digits(
-            rest,
-            value * 10 + u128::from(*digit - b'0'),
-            high,
-        ),
-        _ => (value, bytes),
+        Some((digit, rest)) if goes_on(*digit, value, high) => Some((*digit - b'0', rest)),
+        _ => None,
     }
 }
 
@@ -117,8 +125,9 @@ fn goes_on(byte: u8, value: u128, high: u128) -> bool
 {
     is_digit(byte)
         && 0 < value
+        && value <= u128::MAX / 10
         && u128::from(byte - b'0') <= high
-        && value <= (high - u128::from(byte - b'0')) / 10
+        && value * 10 <= high - u128::from(byte - b'0')
 }
 
 /// Takes a blank and a number of `width` bits in lower-case hexadecimal, and gives what is left after it. The fault is
@@ -127,9 +136,8 @@ pub fn read_hex<'a>(bytes: &'a [u8], width: u32) -> Result<(u128, &'a [u8]), Bro
     requires low { 1 ≤ width }
     requires high { width ≤ 128 }
     ensures found { IfOk result (λ r. (r.0 < 2 ^ width) × (bytes.now ≡ field (hex width r.0) ++ r.1.now)) }
-    ensures only { (n : ℕ) (rest : List ℕ) → n < 2 ^ width → bytes.now ≡ field (hex width n) ++ rest → Gives (λ r. r.0) (λ r. r.1.now) result n rest }
     ensures left { IfErr result (λ e. e.left ≤ length bytes.now) }
-    ensures place { IfErr result (λ e. Leave (IsHex width) bytes.now e.left) }
+    ensures reads { Reads (IsHex width) Anything (λ r. r.0) (λ r. r.1.now) bytes.now result }
 {
     match after_blank(bytes) {
         Some(rest) => hexadecimal(rest, width),
@@ -161,16 +169,28 @@ fn more_hex<'a>(bytes: &'a [u8], count: u32, value: u128) -> Result<(u128, &'a [
     ensures read { Tells (λ r. (r.0, r.1.now)) result (more_hex count value bytes.now) }
     ensures left { IfErr result (λ e. e.left ≤ length bytes.now) }
 {
-    if count == 0 {
-        return Ok((value, bytes));
+    let mut read = value;
+    let mut left = bytes;
+    for _ in 0..count {
+        let Some((digit, rest)) = next_hex(left) else {
+            return Err(Broken { left: left.len() });
+        };
+        read = read * 16 + u128::from(digit);
+        left = rest;
     }
+    Ok((read, left))
+}
+
+// The hexadecimal digit at the front, and what is left after it.
+fn next_hex(bytes: &[u8]) -> Option<(u8, &[u8])>
+    ensures digit { IfSome result (λ r. r.0 < 16) }
+    ensures shorter { IfSome result (λ r. length r.1.now < length bytes.now) }
+    ensures found { IfSome result (λ r. (count n : ℕ) → more_hex (count + 1) n bytes.now ≡ more_hex count (n * 16 + r.0) r.1.now) }
+    ensures none { IfNone result ((count n : ℕ) → more_hex (count + 1) n bytes.now ≡ Err (length bytes.now)) }
+{
     match bytes.split_first() {
-        Some((digit, rest)) if is_hex(*digit) => more_hex(
-            rest,
-            count - 1,
-            value * 16 + u128::from(hex_value(*digit)),
-        ),
-        _ => Err(Broken { left: bytes.len() }),
+        Some((digit, rest)) if is_hex(*digit) => Some((hex_value(*digit), rest)),
+        _ => None,
     }
 }
 
@@ -185,7 +205,7 @@ fn hex_value(byte: u8) -> u8
     ensures value { result ≡ hex_value byte }
     ensures digit { result < 16 }
 {
-    if byte < 58 { byte - b'0' } else { byte - 87 }
+    byte % 16 + 9 * (byte / 64)
 }
 
 fn is_top(byte: u8, width: u32) -> bool

@@ -1,62 +1,46 @@
-ghost use Rattle.std.specs.Prelude.{◌≡◌, ◌++◌, ◌≤◌, List, ℕ, length, min, IfSome, IfNone};
-ghost use Rattle.lz_lines.specs.Places.{Leave};
+ghost use Rattle.std.specs.Prelude.{◌≡◌, ◌++◌, ◌≤◌, List, ℕ, IsTrue, length, IfOk, IfErr};
+ghost use Rattle.lz_lines.specs.Forms.{Anything, Reads};
+ghost use Rattle.lz_lines.specs.Keywords.{OneOf, all_apart};
 
 use crate::reading::{Broken, read_word};
-use std::marker::Model;
 
-/// The choice among several words at the front of some bytes. Each word that may stand there is tried by `word`; where
-/// none does, `broken` is the fault at the first letter that none of them has there.
-#[derive(Debug, Drop)]
-pub struct Choice<'a> {
+/// What has a word of its own, as the kinds of lines have.
+pub trait Keyword: Copy {
+    ghost use Rattle.std.specs.Prelude.{List, ℕ, ◌≡◌};
+
+    ghost spelled: { Self → List ℕ };
+
+    /// The word. It takes no memory.
+    fn word(self) -> &'static [u8]
+        ensures { result.now ≡ spelled self };
+}
+
+/// Takes the word of one of these keys, or of `last`, from the front, and gives what is left after it. None of the words
+/// is the front of another. The fault is at the first letter that none of them has there.
+pub fn read_key<'a, K: Keyword>(
     bytes: &'a [u8],
-    left: usize,
-}
-
-impl<'a> Model for Choice<'a> {
-    ghost use Rattle.std.specs.Prelude.{List, ℕ, ◌≤◌, length};
-    ghost use Rattle.lz_lines.specs.Choice.{ChoiceValue};
-
-    ghost Value = { ChoiceValue };
-
-    ghost view = { λ c. record { bytes = c.bytes.now; left = c.left } };
-
-    ghost invariant = { λ c. c.left ≤ length c.bytes.now };
-}
-
-impl<'a> Choice<'a> {
-    /// No word is tried yet.
-    pub fn new(bytes: &'a [u8]) -> Choice<'a>
-        ensures bytes { result.bytes ≡ bytes.now }
-        ensures left { result.left ≡ length bytes.now }
-    {
-        Choice {
-            bytes,
-            left: bytes.len(),
-        }
-    }
-
-    /// What is left after the word, where it stands at the front.
-    pub fn word(&mut self, word: &[u8]) -> Option<&'a [u8]>
-        ensures found { IfSome result (λ rest. self.old.bytes ≡ word.now ++ rest.now) }
-        ensures only { IfNone result ((rest : List ℕ) → self.old.bytes ≡ word.now ++ rest → ⊥) }
-        ensures kept { self.new.bytes ≡ self.old.bytes }
-        ensures stays { IfSome result (λ rest. self.new.left ≡ self.old.left) }
-        ensures further { IfNone result ((left : ℕ) × Leave (λ t. t ≡ word.now) self.old.bytes left × (self.new.left ≡ min self.old.left left)) }
-    {
-        match read_word(self.bytes, word) {
-            Ok(rest) => Some(rest),
-            Err(broken) => {
-                self.left = self.left.min(broken.left);
-                None
-            }
-        }
-    }
-
-    /// The fault where none of the words that were tried stands at the front.
-    pub fn broken(&self) -> Broken
-        ensures left { result.left ≡ self.now.left }
-        ensures within { result.left ≤ length self.now.bytes }
-    {
-        Broken { left: self.left }
+    keys: &[K],
+    last: K,
+) -> Result<(K, &'a [u8]), Broken>
+    requires { IsTrue (all_apart K.spelled last keys.now) }
+    ensures found { IfOk result (λ r. bytes.now ≡ K.spelled r.0 ++ r.1.now) }
+    ensures left { IfErr result (λ e. e.left ≤ length bytes.now) }
+    ensures reads { Reads (OneOf K.spelled last keys.now) Anything (λ r. r.0) (λ r. r.1.now) bytes.now result }
+{
+    let Some((key, others)) = keys.split_first() else {
+        return match read_word(bytes, last.word()) {
+            Ok(rest) => Ok((last, rest)),
+            Err(broken) => Err(broken),
+        };
+    };
+    let broken = match read_word(bytes, key.word()) {
+        Ok(rest) => return Ok((*key, rest)),
+        Err(broken) => broken,
+    };
+    match read_key(bytes, others, last) {
+        Ok(read) => Ok(read),
+        Err(other) => Err(Broken {
+            left: broken.left.min(other.left),
+        }),
     }
 }

@@ -1,23 +1,20 @@
-use Rattle.std.proofs.Common.{◌≡◌, ◌++◌, take, drop, ◌∙◌, ◌∷◌, [], refl, sym}
+use Rattle.std.proofs.Common.{[], ◌∷◌, refl, sym, take, drop}
 use Rattle.std.proofs.lemmas.List.{take-append-drop}
-use Rattle.lz_base.specs.Names.{is_name_byte}
-use Rattle.lz_lines.proofs.NameEnds.{name_bytes, one_front, name_place}
-use Rattle.lz_lines.proofs.Places.{blank_place}
-use Rattle.lz_lines.specs.Fields.{field}
-use Rattle.lz_lines.specs.Places.{IsNameField}
+use Rattle.lz_lines.proofs.NameEnds.{name_is, name_taken, name_breaks}
+use Rattle.lz_lines.proofs.Places.{blank_breaks}
+use Rattle.lz_lines.specs.Fields.{IsNameField, field}
+use Rattle.lz_lines.specs.Forms.{Parted}
 use Rattle.lz_lines.proofs.names.read_name.Goals as goal
 
-pub returns-clause-only : goal.returns-clause-only
-returns-clause-only c name rest is ends split =
+pub returns-in_default-clause-reads : goal.returns-in_default-clause-reads
+returns-in_default-clause-reads c = blank_breaks IsNameField Parted c.args.bytes.now (97 ∷ []) (field (97 ∷ [])) (refl, refl) (λ name text is. (name, is.1)) c.in_default.ensures.only
+
+pub returns-then-not-begins_name-clause-reads : goal.returns-then-not-begins_name-clause-reads
+returns-then-not-begins_name-clause-reads c = name_breaks c.args.bytes.now c.in-Some.rest.now c.in-Some.ensures.found (sym c.if-not-begins_name.ensures)
+
+pub returns-clause-reads : goal.returns-clause-reads
+returns-clause-reads c =
     let bytes = c.in-Some.rest.now in
     let n = c.name_length.result in
-    let whole : take n bytes ++ drop n bytes ≡ bytes = take-append-drop n bytes in
-    let here : bytes ≡ name ++ rest = cc (c.in-Some.ensures.found) in
-    let same = one_front is_name_byte (take n bytes) name (drop n bytes) rest c.name_length.ensures.name (name_bytes name is) c.name_length.ensures.end ends (whole ∙ here) in
-    (c.split_at.ensures.front ∙ same.0, c.split_at.ensures.back ∙ same.1)
-
-pub returns-in_default-clause-place : goal.returns-in_default-clause-place
-returns-in_default-clause-place c = blank_place IsNameField c.args.bytes.now (field (97 ∷ [])) (97 ∷ [], refl, refl) (λ text is. (is.0, is.2)) c.in_default.ensures.only
-
-pub returns-then-not-begins_name-clause-place : goal.returns-then-not-begins_name-clause-place
-returns-then-not-begins_name-clause-place c = name_place c.args.bytes.now c.in-Some.rest.now c.in-Some.ensures.found (sym c.if-not-begins_name.ensures)
+    rw (c.split_at.ensures.front, c.split_at.ensures.back)
+    (name_taken c.args.bytes.now bytes (take n bytes) (drop n bytes) c.in-Some.ensures.found (name_is bytes n (sym c.if-not-begins_name.ensures) c.name_length.ensures.name c.name_length.ensures.end) (sym (take-append-drop n bytes)) c.name_length.ensures.end)

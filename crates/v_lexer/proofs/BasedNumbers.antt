@@ -6,7 +6,8 @@ use Rattle.std.proofs.Math.Seq.{take-append_seam}
 use Rattle.std.proofs.lemmas.List.{append_cancel_right}
 use Rattle.v_syntax.specs.declared.token.Lexeme.{Lexeme}
 use Rattle.v_syntax.specs.declared.token.Lexeme.TheVariants as l
-use Rattle.v_syntax.specs.Tokens.{spelling, is_white, is_base, is_binary, is_octal, is_decimal, is_digit_of, is_later_digit, are_digits, is_sign, IsBased, HasForm, Begins, stops}
+use Rattle.v_syntax.specs.Tokens.{spelling, HasForm, Begins, stops}
+use Rattle.v_syntax.specs.Numbers.{is_white, is_base, is_binary, is_octal, is_decimal, is_digit_of, is_later_digit, are_digits, is_sign, IsBased}
 use Rattle.v_syntax.specs.Tokens.Piece.{Item}
 use Rattle.v_lexer.specs.declared.classes.Kind.TheVariants as kind
 use Rattle.v_lexer.specs.Scan.{kind_of, front_of, rest_of, is_sign_letter, after_sign, base_letter, base_of, after_digits, after_base, after_based, BeginsNoToken}
@@ -191,6 +192,12 @@ based_split bytes rest is =
     let read = based_read bytes rest is in
     let front : take (length bytes - length rest) bytes ≡ read.front = ap (λ l. take (length l - length rest) l) read.text ∙ front_taken read.front rest in
     read.text ∙ ap (λ l. l ++ rest) (sym front)
+
+-- what is read has the form
+pub based_form : (bytes rest : List ℕ) → after_based bytes ≡ Some rest → IsBased (take (length bytes - length rest) bytes)
+based_form bytes rest is =
+    let read = based_read bytes rest is in
+    subst IsBased (sym (ap (λ l. take (length l - length rest) l) read.text ∙ front_taken read.front rest)) read.is
 
 -- the number with all its digits is the longest token
 pub based_begins : (bytes number rest : List ℕ) → kind_of bytes ≡ kind.Based → bytes ≡ number ++ rest → after_based bytes ≡ Some rest → Begins bytes rest (Item (l.Based number))

@@ -3,7 +3,8 @@ use Rattle.std.proofs.Common.{◌≡◌, ℕ, Bool, true, false, not, ◌&&◌, 
 use Rattle.std.specs.List.{list_all}
 use Rattle.std.proofs.lemmas.Bool.{and_parts, eqb-true}
 use Rattle.lz_base.specs.Names.{is_name_byte}
-use Rattle.v_syntax.specs.Tokens.{is_white, is_in_line, begins_slash, is_open, skipped_words, stops, Piece, piece_text, IsPiece, Begins}
+use Rattle.v_syntax.specs.Tokens.{is_in_line, begins_slash, is_open, skipped_words, stops, Piece, piece_text, IsPiece, Begins}
+use Rattle.v_syntax.specs.Numbers.{is_white}
 use Rattle.v_syntax.specs.Tokens.Piece.{White, LineComment, BlockComment, Skipped, Item}
 use Rattle.v_lexer.specs.Scan.{front_of, rest_of, is_in, tail_of, after_close, after_comment, after_directive, after_gap, IsGap, Skips}
 use Rattle.v_lexer.proofs.Runs.{front_rest, front_passes, front_exact, rest_exact, rest_stops, one_passes, not_true}

@@ -11,7 +11,9 @@ use Rattle.v_syntax.specs.declared.token.Mark.{Mark}
 use Rattle.v_syntax.specs.declared.token.Mark.TheVariants as m
 use Rattle.v_syntax.specs.declared.token.Cast.{Cast}
 use Rattle.v_syntax.specs.declared.token.Cast.TheVariants as c
-use Rattle.v_syntax.specs.Tokens.{keyword_spelling, unused_words, mark_spelling, cast_spelling, spelling, is_white, is_digit, is_decimal_byte, is_plain, IsOneOf, HasForm, Piece, piece_text, IsPiece}
+use Rattle.v_syntax.specs.Tokens.{keyword_spelling, unused_words, mark_spelling, cast_spelling, spelling, HasForm, Piece, piece_text, IsPiece}
+use Rattle.v_syntax.specs.Numbers.{is_white, is_digit, is_decimal_byte, is_plain}
+use Rattle.lz_base.specs.Names.{IsAmong}
 use Rattle.v_syntax.specs.Tokens.Piece.{White, LineComment, BlockComment, Skipped, Item}
 use Rattle.v_lexer.specs.declared.classes.Kind.{Kind}
 use Rattle.v_lexer.specs.declared.classes.Kind.TheVariants as kind
@@ -102,7 +104,7 @@ unused_names : list_all is_name unused_words ≡ true
 unfolding unused_words
 unused_names = refl
 
-pub unused_name : (word : List ℕ) → IsOneOf word unused_words → is_name word ≡ true
+pub unused_name : (word : List ℕ) → IsAmong word unused_words → is_name word ≡ true
 unused_name word is = one_passes is_name unused_words word is unused_names
 
 start_kind : (byte : ℕ) (bytes : List ℕ) → is_name_start byte ≡ true → kind_of (byte ∷ bytes) ≡ kind.Word

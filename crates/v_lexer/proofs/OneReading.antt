@@ -8,7 +8,8 @@ use Rattle.v_syntax.specs.declared.token.Mark.{Mark}
 use Rattle.v_syntax.specs.declared.token.Cast.{Cast}
 use Rattle.v_syntax.specs.declared.token.Cast.TheVariants as c
 use Rattle.v_syntax.specs.declared.token.Token.{Token}
-use Rattle.v_syntax.specs.Tokens.{keyword_spelling, mark_spelling, cast_spelling, unused_words, IsOneOf, spelling, HasForm, Piece, piece_text, text_of, IsPiece, IsSplit, tokens_from, Begins, Lexes, BreaksAt}
+use Rattle.v_syntax.specs.Tokens.{keyword_spelling, mark_spelling, cast_spelling, unused_words, spelling, HasForm, Piece, piece_text, text_of, IsPiece, IsSplit, tokens_from, Begins, Lexes, BreaksAt}
+use Rattle.lz_base.specs.Names.{IsAmong}
 use Rattle.v_syntax.specs.Tokens.Piece.{White, LineComment, BlockComment, Skipped, Item}
 use Rattle.lz_base.specs.Names.{is_name_byte, IsNew}
 use Rattle.v_lexer.specs.Scan.{kind_of, keyword_in, keywords, mark_in, marks, front_of, after_gap, IsGap}
@@ -19,7 +20,7 @@ use Rattle.v_lexer.proofs.Between.{gap_passed, skipped_word}
 use Rattle.v_lexer.proofs.WordForms.{keyword_found, unused_no_keyword}
 use Rattle.v_lexer.proofs.MarkForms.{mark_found}
 
-new_is_none : (words : List (List ℕ)) (word : List ℕ) → IsNew word words → IsOneOf word words → ⊥
+new_is_none : (words : List (List ℕ)) (word : List ℕ) → IsNew word words → IsAmong word words → ⊥
 new_is_none [] word new is = is
 new_is_none (other ∷ words) word new (inl same) = new.0 same
 new_is_none (other ∷ words) word new (inr is) = new_is_none words word new.1 is
@@ -59,13 +60,13 @@ cast_same c.Unsigned c.Unsigned is = refl
 same_lexeme : (a b : Lexeme) → HasForm a → HasForm b → spelling a ≡ spelling b → lexeme_kind a ≡ lexeme_kind b → a ≡ b
 same_lexeme (l.Identifier a) (l.Identifier b) f g is kinds = ap l.Identifier is
 same_lexeme (l.Identifier a) (l.Keyword b) f g is kinds = absurd (f.1 b is)
-same_lexeme (l.Identifier a) (l.Reserved b) f g is kinds = absurd (new_is_none unused_words a f.2 (subst (λ (w : List ℕ). IsOneOf w unused_words) (sym is) g))
+same_lexeme (l.Identifier a) (l.Reserved b) f g is kinds = absurd (new_is_none unused_words a f.2 (subst (λ (w : List ℕ). IsAmong w unused_words) (sym is) g))
 same_lexeme (l.Identifier a) _ f g is kinds = absurd (cc)
 same_lexeme (l.Keyword a) (l.Identifier b) f g is kinds = absurd (g.1 a (sym is))
 same_lexeme (l.Keyword a) (l.Keyword b) f g is kinds = ap l.Keyword (keyword_same a b is)
 same_lexeme (l.Keyword a) (l.Reserved b) f g is kinds = absurd (unused_no_keyword b g a (sym is))
 same_lexeme (l.Keyword a) _ f g is kinds = absurd (cc)
-same_lexeme (l.Reserved a) (l.Identifier b) f g is kinds = absurd (new_is_none unused_words b g.2 (subst (λ (w : List ℕ). IsOneOf w unused_words) is f))
+same_lexeme (l.Reserved a) (l.Identifier b) f g is kinds = absurd (new_is_none unused_words b g.2 (subst (λ (w : List ℕ). IsAmong w unused_words) is f))
 same_lexeme (l.Reserved a) (l.Keyword b) f g is kinds = absurd (unused_no_keyword a f b is)
 same_lexeme (l.Reserved a) (l.Reserved b) f g is kinds = ap l.Reserved is
 same_lexeme (l.Reserved a) _ f g is kinds = absurd (cc)

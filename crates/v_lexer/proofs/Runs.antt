@@ -3,7 +3,8 @@ use Rattle.std.proofs.Common.{◌≡◌, ◌≢◌, ◌≤◌, ◌-◌, ℕ, Boo
 use Rattle.std.specs.List.{list_all}
 use Rattle.std.proofs.lemmas.Bool.{and_parts, eq-eqb}
 use Rattle.std.proofs.Math.Seq.{take-append_seam}
-use Rattle.v_syntax.specs.Tokens.{IsOneOf, stops}
+use Rattle.v_syntax.specs.Tokens.{stops}
+use Rattle.lz_base.specs.Names.{IsAmong}
 use Rattle.v_lexer.specs.Scan.{front_of, rest_of}
 
 pub not_true : (b : Bool) → not b ≡ true → b ≡ false
@@ -49,7 +50,7 @@ front_is_longest test (x ∷ other) more (byte ∷ bytes) is all =
     rw passes (omega (arith, front_is_longest test other more bytes rest both.1))
 
 -- one of words that all pass a test passes it
-pub one_passes : (test : List ℕ → Bool) (words : List (List ℕ)) (word : List ℕ) → IsOneOf word words → list_all test words ≡ true → test word ≡ true
+pub one_passes : (test : List ℕ → Bool) (words : List (List ℕ)) (word : List ℕ) → IsAmong word words → list_all test words ≡ true → test word ≡ true
 one_passes test [] word is all = absurd is
 one_passes test (other ∷ words) word (inl same) all = ap test same ∙ (and_parts (test other) (list_all test words) all).0
 one_passes test (other ∷ words) word (inr is) all = one_passes test words word is (and_parts (test other) (list_all test words) all).1

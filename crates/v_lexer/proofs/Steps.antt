@@ -8,7 +8,8 @@ use Rattle.v_syntax.specs.declared.token.Cast.TheVariants as c
 use Rattle.v_syntax.specs.declared.token.Lexeme.{Lexeme}
 use Rattle.v_syntax.specs.declared.token.Lexeme.TheVariants as l
 use Rattle.v_syntax.specs.declared.token.Mark.{Mark}
-use Rattle.v_syntax.specs.Tokens.{mark_spelling, cast_spelling, spelling, is_digit, is_decimal_byte, is_plain, HasForm, IsWhole, Begins}
+use Rattle.v_syntax.specs.Tokens.{mark_spelling, cast_spelling, spelling, HasForm, IsWholeWord, Begins}
+use Rattle.v_syntax.specs.Numbers.{is_digit, is_decimal_byte, is_plain}
 use Rattle.v_syntax.specs.Tokens.Piece.{Item}
 use Rattle.v_lexer.specs.declared.classes.Kind.{Kind}
 use Rattle.v_lexer.specs.declared.classes.Kind.TheVariants as kind
@@ -47,7 +48,7 @@ name_bytes (byte ∷ bytes) is =
     let passes : is_name_byte byte ≡ true = rw parts.0 refl in
     rw passes parts.1
 
-word_is_whole : (word : Lexeme) (rest : List ℕ) → lexeme_kind word ≡ kind.Word → IsWhole word rest
+word_is_whole : (word : Lexeme) (rest : List ℕ) → lexeme_kind word ≡ kind.Word → IsWholeWord word rest
 word_is_whole (l.Cast sign) rest is = absurd (cc)
 word_is_whole _ rest is = tt
 
@@ -81,13 +82,17 @@ plain_bytes (byte ∷ bytes) is =
     let passes : is_decimal_byte byte ≡ true = rw parts.0 refl in
     rw passes parts.1
 
-front_is_plain : (bytes : List ℕ) → kind_of bytes ≡ kind.Decimal → is_plain (front_of is_decimal_byte bytes) ≡ true
-front_is_plain [] is = absurd (cc)
-front_is_plain (byte ∷ bytes) is =
+plain_front : (bytes : List ℕ) → kind_of bytes ≡ kind.Decimal → is_plain (front_of is_decimal_byte bytes) ≡ true
+plain_front [] is = absurd (cc)
+plain_front (byte ∷ bytes) is =
     let start : is_digit byte ≡ true = digit_start byte is in
     let passes : is_decimal_byte byte ≡ true = rw start refl in
     let all : list_all is_decimal_byte (front_of is_decimal_byte bytes) ≡ true = front_passes is_decimal_byte bytes in
     rw passes (rw start all)
+
+-- the decimal digits and underscores that a digit begins are a number
+pub front_is_plain : (bytes digits : List ℕ) → kind_of bytes ≡ kind.Decimal → digits ≡ front_of (passes class.Decimal) bytes → is_plain digits ≡ true
+front_is_plain bytes digits starts is = ap is_plain is ∙ plain_front bytes starts
 
 whole_plain : (bytes digits : List ℕ) → kind_of bytes ≡ kind.Decimal → digits ≡ front_of is_decimal_byte bytes → Begins bytes (rest_of is_decimal_byte bytes) (Item (l.Decimal digits))
 whole_plain bytes digits starts is =
@@ -95,7 +100,7 @@ whole_plain bytes digits starts is =
     record {
       text = whole;
       one = (
-        ap is_plain is ∙ front_is_plain bytes starts,
+        front_is_plain bytes digits starts is,
         λ other more has same.
             let here : bytes ≡ spelling other ++ more = whole ∙ same in
             let as_number = is_decimal other (same_kind bytes kind.Decimal other more starts has here) in

@@ -7,7 +7,8 @@ use Rattle.std.proofs.lemmas.Slice.Eq.{bytes_eq-Decides}
 use Rattle.lz_base.specs.Names.{IsNew}
 use Rattle.v_syntax.specs.declared.token.Keyword.{Keyword}
 use Rattle.v_syntax.specs.declared.token.Keyword.TheVariants as k
-use Rattle.v_syntax.specs.Tokens.{keyword_spelling, unused_words, IsOneOf}
+use Rattle.v_syntax.specs.Tokens.{keyword_spelling, unused_words}
+use Rattle.lz_base.specs.Names.{IsAmong}
 use Rattle.v_lexer.proofs.Runs.{one_passes}
 use Rattle.v_lexer.specs.Scan.{keyword_in, keywords, is_in}
 
@@ -63,13 +64,13 @@ no_keywords word (Some found) is = tt
 no_keywords word None is = λ other. no_keyword word other (sym is)
 
 -- a list of words, and the test on it
-pub listed : (words : List (List ℕ)) (word : List ℕ) → is_in words word ≡ true → IsOneOf word words
+pub listed : (words : List (List ℕ)) (word : List ℕ) → is_in words word ≡ true → IsAmong word words
 listed [] word is = cc
 listed (other ∷ words) word is =
-    elim (bytes_eq other word) as (λ b. bytes_eq other word ≡ b → (b || is_in words word) ≡ true → (word ≡ other) ⊎ IsOneOf word words)
+    elim (bytes_eq other word) as (λ b. bytes_eq other word ≡ b → (b || is_in words word) ≡ true → (word ≡ other) ⊎ IsAmong word words)
     [ true ↦ λ t e. inl (sym ((bytes_eq-Decides other word).0 t)) | false ↦ λ t e. inr (listed words word e) ] refl is
 
-pub is_listed : (words : List (List ℕ)) (word : List ℕ) → IsOneOf word words → is_in words word ≡ true
+pub is_listed : (words : List (List ℕ)) (word : List ℕ) → IsAmong word words → is_in words word ≡ true
 is_listed [] word is = absurd is
 is_listed (other ∷ words) word (inl same) = rw ((bytes_eq-Decides other word).1 (sym same)) refl
 is_listed (other ∷ words) word (inr is) =
@@ -92,6 +93,6 @@ is_nothing None is = refl
 is_nothing (Some x) is = absurd (cc)
 
 -- an unused word is no keyword
-pub unused_no_keyword : (word : List ℕ) → IsOneOf word unused_words → (other : Keyword) → word ≢ keyword_spelling other
+pub unused_no_keyword : (word : List ℕ) → IsAmong word unused_words → (other : Keyword) → word ≢ keyword_spelling other
 unused_no_keyword word is other =
     no_keyword word other (is_nothing (keyword_in keywords word) (one_passes (λ w. is_none (keyword_in keywords w)) unused_words word is no_keyword_listed))

@@ -1,2 +1,1 @@
-pub mod Lexed
 pub mod Scan

@@ -7,7 +7,8 @@ use Rattle.v_syntax.specs.declared.token.Keyword.{Keyword}
 use Rattle.v_syntax.specs.declared.token.Lexeme.{Lexeme}
 use Rattle.v_syntax.specs.declared.token.Mark.{Mark}
 use Rattle.v_syntax.specs.declared.token.Token.{Token}
-use Rattle.v_syntax.specs.Tokens.{is_white, is_digit, is_decimal_byte, is_base, is_digit_of, is_later_digit, is_in_line, begins_slash, skipped_words, Piece, text_of, IsSplit, tokens_from, Begins}
+use Rattle.v_syntax.specs.Tokens.{is_in_line, begins_slash, skipped_words, Piece, text_of, IsSplit, tokens_from, Begins}
+use Rattle.v_syntax.specs.Numbers.{is_white, is_digit, is_decimal_byte, is_base, is_digit_of, is_later_digit}
 use Rattle.v_syntax.specs.Tokens.Piece.{White, LineComment, BlockComment, Skipped, Item}
 use Rattle.v_lexer.specs.declared.words.TheConstants.{KEYWORDS}
 use Rattle.v_lexer.specs.declared.marks.TheConstants.{MARKS}

@@ -1,7 +1,8 @@
 ghost use Rattle.std.specs.Prelude.{◌≡◌};
-ghost use Rattle.lz_base.specs.Names as names;
-ghost use Rattle.v_syntax.specs.Tokens as tokens;
+ghost use Rattle.v_syntax.specs.Numbers as numbers;
 ghost use Rattle.v_lexer.specs.Scan as scan;
+
+use lz_base::{is_name_byte, is_name_start};
 
 /// What a piece is, as its first byte tells.
 #[derive(Clone, Copy, Debug)]
@@ -29,61 +30,49 @@ pub enum Class {
 }
 
 pub fn is_white(byte: u8) -> bool
-    ensures { result ≡ tokens.is_white byte }
+    ensures { result ≡ numbers.is_white byte }
 {
     byte == b' ' || byte == b'\t' || byte == b'\n' || byte == 12 || byte == b'\r'
 }
 
-fn is_name_start(byte: u8) -> bool
-    ensures { result ≡ names.is_name_start byte }
-{
-    (97 <= byte && byte <= 122) || (65 <= byte && byte <= 90) || byte == b'_'
-}
-
-fn is_name_byte(byte: u8) -> bool
-    ensures { result ≡ names.is_name_byte byte }
-{
-    is_name_start(byte) || is_digit(byte) || byte == b'$'
-}
-
 fn is_digit(byte: u8) -> bool
-    ensures { result ≡ tokens.is_digit byte }
+    ensures { result ≡ numbers.is_digit byte }
 {
     48 <= byte && byte <= 57
 }
 
 fn is_unknown_digit(byte: u8) -> bool
-    ensures { result ≡ tokens.is_unknown_digit byte }
+    ensures { result ≡ numbers.is_unknown_digit byte }
 {
     byte == b'x' || byte == b'X' || byte == b'z' || byte == b'Z' || byte == b'?'
 }
 
 fn is_binary(letter: u8) -> bool
-    ensures { result ≡ tokens.is_binary letter }
+    ensures { result ≡ numbers.is_binary letter }
 {
     letter == b'b' || letter == b'B'
 }
 
 fn is_octal(letter: u8) -> bool
-    ensures { result ≡ tokens.is_octal letter }
+    ensures { result ≡ numbers.is_octal letter }
 {
     letter == b'o' || letter == b'O'
 }
 
 fn is_decimal(letter: u8) -> bool
-    ensures { result ≡ tokens.is_decimal letter }
+    ensures { result ≡ numbers.is_decimal letter }
 {
     letter == b'd' || letter == b'D'
 }
 
 pub fn is_base(letter: u8) -> bool
-    ensures { result ≡ tokens.is_base letter }
+    ensures { result ≡ numbers.is_base letter }
 {
     is_binary(letter) || is_octal(letter) || is_decimal(letter) || letter == b'h' || letter == b'H'
 }
 
 fn is_known_digit_of(base: u8, byte: u8) -> bool
-    ensures { result ≡ tokens.is_known_digit_of base byte }
+    ensures { result ≡ numbers.is_known_digit_of base byte }
 {
     if is_binary(base) {
         48 <= byte && byte <= 49
@@ -97,13 +86,13 @@ fn is_known_digit_of(base: u8, byte: u8) -> bool
 }
 
 pub fn is_digit_of(base: u8, byte: u8) -> bool
-    ensures { result ≡ tokens.is_digit_of base byte }
+    ensures { result ≡ numbers.is_digit_of base byte }
 {
     is_unknown_digit(byte) || is_known_digit_of(base, byte)
 }
 
 fn is_later_digit(base: u8, first: u8, byte: u8) -> bool
-    ensures { result ≡ tokens.is_later_digit base first byte }
+    ensures { result ≡ numbers.is_later_digit base first byte }
 {
     if byte == b'_' {
         true

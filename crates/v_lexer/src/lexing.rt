@@ -1,8 +1,9 @@
-ghost use Rattle.std.specs.Prelude.{◌≡◌, ◌≤◌, ◌+◌, ◌-◌, ◌^◌, ◌++◌, ◌∷◌, [], length, IfOk, IfSome, IfNone, List, ℕ, OnOk};
+ghost use Rattle.std.specs.Prelude.{◌≡◌, ◌≤◌, ◌+◌, ◌-◌, ◌++◌, ◌∷◌, [], length, IfOk, IfSome, IfNone, List, ℕ, OnOk};
+ghost use Rattle.lz_base.specs.Answers.{IfFault};
+ghost use Rattle.lz_base.specs.Limits.{source_limit};
 ghost use Rattle.lz_base.specs.declared.rule.Rule.TheVariants.{E2};
 ghost use Rattle.v_syntax.specs.Tokens.{Piece, Begins, Lexes, BreaksAt};
 ghost use Rattle.v_syntax.specs.Tokens.Piece.{Item};
-ghost use Rattle.v_lexer.specs.Lexed.{IfFault};
 ghost use Rattle.v_lexer.specs.Scan.{BeginsNoToken};
 
 use crate::classes::{Kind, kind_of};
@@ -46,11 +47,11 @@ fn push(tokens: &mut Items<Token>, token: Token) -> Result<(), OutOfMemory>
 /// The tokens of a source file: its one split into white space, comments, skipped lines and tokens, each token
 /// the longest that can begin at its place (IEEE Std 1364-2005, clause 3).
 ///
-/// A fault is E2 at the first byte that begins none of these; then the file has no tokens. Want of memory may come
-/// at any file.
+/// A fault is E2 at a byte up to which the file is split so and at which none of these begins; then the file has no
+/// tokens. Want of memory may come at any file.
 #[tactic(auto, using(crate::proofs::Scans::scanned_none, crate::proofs::Scans::scanned_gap, crate::proofs::Scans::scanned_item, crate::proofs::Scans::scanned_all, crate::proofs::Scans::scanned_breaks, crate::proofs::Scans::lexes_tokens))]
 pub fn lex(alloc: Global, bytes: &[u8]) -> Result<Tokens, Stop>
-    requires { length bytes.now ≤ 2 ^ 20 }
+    requires { length bytes.now ≤ source_limit }
     ensures tokens { IfOk result (λ t. Lexes bytes.now t.tokens) }
     ensures end { IfOk result (λ t. t.end ≡ length bytes.now) }
     ensures breaks { IfFault result (λ f. (f.rule ≡ E2) × BreaksAt bytes.now f.at) }

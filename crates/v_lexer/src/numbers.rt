@@ -1,22 +1,24 @@
 ghost use Rattle.std.specs.Prelude.{◌≡◌, ◌++◌, IfOk, IfSome, IfNone, Option, option_map};
 ghost use Rattle.std.specs.Option.{option_copied};
+ghost use Rattle.v_syntax.specs.Numbers.{IsBased};
 ghost use Rattle.v_syntax.specs.Tokens.{Begins};
 ghost use Rattle.v_syntax.specs.Tokens.Piece.{Item};
 ghost use Rattle.v_lexer.specs.Scan as scan;
 ghost use Rattle.v_lexer.specs.Scan.{BeginsNoToken};
 
 use crate::classes::{Class, Kind, after, is_base, is_digit_of, split};
-use lz_base::{Items, OutOfMemory};
+use lz_base::OutOfMemory;
 use std::alloc::Global;
-use v_syntax::Lexeme;
+use v_syntax::{Based, Decimal, Lexeme};
 
 /// The number without a base at the front, and what follows it.
+#[tactic(auto, using(crate::proofs::Steps::front_is_plain))]
 pub fn decimal(alloc: Global, bytes: &[u8]) -> Result<(Lexeme, &[u8]), OutOfMemory>
     requires { scan.kind_of bytes.now ≡ Kind.Decimal }
     ensures { IfOk result (λ f. Begins bytes.now f.1.now (Item f.0)) }
 {
     let (digits, rest) = split(Class::Decimal, bytes);
-    Ok((Lexeme::Decimal(Items::from_slice(alloc, digits)?), rest))
+    Ok((Lexeme::Decimal(Decimal::new(alloc, digits)?), rest))
 }
 
 fn after_sign(bytes: &[u8]) -> &[u8]
@@ -69,10 +71,11 @@ fn after_based(bytes: &[u8]) -> Option<&[u8]>
 }
 
 // The bytes of the based number at the front, and what follows it.
-#[tactic(auto, using(crate::proofs::BasedNumbers::based_split, crate::proofs::BasedNumbers::based_within))]
+#[tactic(auto, using(crate::proofs::BasedNumbers::based_split, crate::proofs::BasedNumbers::based_form, crate::proofs::BasedNumbers::based_within))]
 fn split_based(bytes: &[u8]) -> Option<(&[u8], &[u8])>
     ensures rest { option_map (λ f. f.1.now) result ≡ scan.after_based bytes.now }
     ensures front { IfSome result (λ f. bytes.now ≡ f.0.now ++ f.1.now) }
+    ensures form { IfSome result (λ f. IsBased f.0.now) }
 {
     match after_based(bytes) {
         Some(rest) => Some((&bytes[..bytes.len() - rest.len()], rest)),
@@ -88,7 +91,7 @@ pub fn based(alloc: Global, bytes: &[u8]) -> Result<Option<(Lexeme, &[u8])>, Out
     ensures none { IfOk result (λ o. IfNone o (BeginsNoToken bytes.now)) }
 {
     match split_based(bytes) {
-        Some((number, rest)) => Ok(Some((Lexeme::Based(Items::from_slice(alloc, number)?), rest))),
+        Some((number, rest)) => Ok(Some((Lexeme::Based(Based::new(alloc, number)?), rest))),
         None => Ok(None),
     }
 }

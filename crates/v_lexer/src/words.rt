@@ -1,6 +1,7 @@
 ghost use Rattle.std.specs.Prelude.{◌≡◌, ◌≢◌, ◌+◌, ◌≤◌, false, length, map, IfOk, IfSome, IfNone, IsTrue, IsFalse, ℕ};
 ghost use Rattle.lz_base.specs.Names.{is_name, IsNew};
-ghost use Rattle.v_syntax.specs.Tokens.{keyword_spelling, cast_spelling, unused_words, IsOneOf, HasForm, spelling, Begins};
+ghost use Rattle.v_syntax.specs.Tokens.{keyword_spelling, cast_spelling, unused_words, HasForm, spelling, Begins};
+ghost use Rattle.lz_base.specs.Names.{IsAmong};
 ghost use Rattle.v_syntax.specs.Tokens.Piece.{Item};
 ghost use Rattle.v_lexer.specs.Scan as scan;
 ghost use Rattle.v_lexer.specs.Scan.{BeginsNoToken};
@@ -134,7 +135,7 @@ fn is_listed(word: &[u8]) -> bool
 // Whether the word is reserved and stands in no rule of the grammar.
 #[tactic(auto, using(crate::proofs::WordForms::listed, crate::proofs::WordForms::not_listed))]
 fn is_unused(word: &[u8]) -> bool
-    ensures yes { IsTrue result → IsOneOf word.now unused_words }
+    ensures yes { IsTrue result → IsAmong word.now unused_words }
     ensures no { result ≡ false → IsNew word.now unused_words }
 {
     is_listed(word)

@@ -11,3 +11,4 @@ pub mod Simple
 pub mod Nearest
 pub mod GroupRules
 pub mod ModuleRules
+pub mod Refused

@@ -12,18 +12,19 @@ use Rattle.v_syntax.specs.declared.module.ParameterGroup.{ParameterGroup}
 use Rattle.v_syntax.specs.declared.module.PortGroup.{PortGroup}
 use Rattle.v_syntax.specs.declared.module.PortKind.{PortKind}
 use Rattle.v_syntax.specs.declared.module.PortKind.TheVariants as p
+use Rattle.v_syntax.specs.declared.module.Event.TheVariants as events
 use Rattle.v_syntax.specs.declared.module.Item.{Item}
 use Rattle.v_syntax.specs.declared.module.Item.TheVariants as i
 use Rattle.v_syntax.specs.declared.module.Module.{Module}
 use Rattle.v_syntax.specs.Rule as r
 use Rattle.v_syntax.specs.Rule.{Rule, ◌>>=◌, ◌>>◌, ◌<|>◌, yields, token, mark, word, ident, here, many, listed, several, optional, flag}
-use Rattle.v_syntax.specs.Grammar.{IsRange}
+use Rattle.v_syntax.specs.Grammar.{inner_levels, IsRange}
 use Rattle.v_syntax.specs.StmtGrammar.{IsWhole}
-use Rattle.v_syntax.specs.ModuleGrammar.{IsValue, IsSetting, IsDeclared, IsBare, IsVariable, IsSettings, IsParameterGroup, IsPortKind, IsPort, IsPortGroup, IsParameters, IsPorts, IsParameterItem, IsLocalParameterItem, IsWireItem, IsRegItem, IsAssignItem, IsAlwaysItem, IsItem, IsModule, Derives}
+use Rattle.v_syntax.specs.ModuleGrammar.{IsValue, IsSetting, IsDeclared, IsBare, IsVariable, IsSettings, IsParameterGroup, IsPortKind, IsPort, IsPortGroup, IsParameters, IsPorts, IsParameterItem, IsLocalParameterItem, IsWireItem, IsRegItem, IsAssignItem, IsAnyEvent, IsPosedge, IsEventGroup, IsAlwaysItem, IsItem, IsModule, Derives}
 use Rattle.v_parser.specs.Reading as read
 use Rattle.v_parser.specs.Reading.{Reader, then_read, gives, choose, mark_code, word_code, kind, next, next_in, among, mark_at, word_at, repeated, is_comma, more_at, listed_at}
 use Rattle.v_parser.specs.Exprs.{identifiers, only}
-use Rattle.v_parser.specs.Modules.{these, flag_at, range_option_at, value_at, value_option_at, setting_at, declared_at, bare_at, variable_at, settings_at, input_at, output_at, port_kind_at, port_at, parameter_words, port_words, parameter_group_at, port_group_at, parameter_groups_at, port_groups_at, parameters_at, port_list_at, ports_at, parameter_item_at, local_parameter_item_at, wire_item_at, reg_item_at, assign_item_at, always_item_at, item_at, not_endmodule, body_at, module_at}
+use Rattle.v_parser.specs.Modules.{these, flag_at, range_option_at, value_at, value_option_at, setting_at, declared_at, bare_at, variable_at, settings_at, input_at, output_at, port_kind_at, port_at, parameter_words, port_words, parameter_group_at, port_group_at, parameter_groups_at, port_groups_at, parameters_at, port_list_at, ports_at, parameter_item_at, local_parameter_item_at, wire_item_at, reg_item_at, assign_item_at, any_event_at, posedge_at, inner_event_at, event_group_at, event_at, always_item_at, item_at, not_endmodule, body_at, module_at}
 use Rattle.v_parser.proofs.Exact.{SameNext, Reads, Begins, Differs, reads_bind, reads_then, reads_yields, reads_choose, reads_same, reads_looser, reads_closed, begins_bind, begins_or, begins_among, none, apart, opens, silent, others, nothing, next_or, next_fewer, passes, only_end, ok_value, ok_rest}
 use Rattle.v_parser.proofs.Single.{reads_mark, reads_word, reads_ident}
 use Rattle.v_parser.proofs.Many.{Repeats, reads_many, reads_listed, list_goes}
@@ -32,15 +33,9 @@ use Rattle.v_parser.proofs.TargetRules.{begins_word, reads_whole}
 use Rattle.std.specs.Prelude.{nat_le, ⊤}
 use Rattle.v_parser.specs.Exprs.{ranks}
 use Rattle.v_parser.specs.Stmts.{elses}
-use Rattle.std.proofs.Common.{append_assoc}
-use Rattle.std.proofs.lemmas.List.{append-nil, nil_from_length}
-use Rattle.std.proofs.lemmas.Bool.{eqb-true}
-use Rattle.v_parser.specs.declared.miss.Miss.{Miss}
-use Rattle.v_parser.specs.declared.miss.Miss.TheVariants as miss
-use Rattle.v_parser.specs.Gives.{Fails}
 use Rattle.lz_base.specs.declared.rule.Rule.TheVariants.{E3}
-use Rattle.lz_base.specs.declared.fault.Fault.{Fault}
-use Rattle.v_parser.specs.Refusal.{IsRefused, IsDead, place_of}
+use Rattle.v_parser.specs.Refusal.{IsRefused, first_place}
+use Rattle.v_parser.proofs.Refused.{refused_stopped}
 use Rattle.v_parser.proofs.Nearest.{reads_stmt}
 use Rattle.v_parser.proofs.GroupRules.{Named, Between, names_goes, groups_goes, reads_names, reads_groups, names_to, names_from, list_to, list_from, closes, closed_here}
 
@@ -125,19 +120,8 @@ reads_bare : Reads IsBare value_goes 1 bare_at
 unfolding bare_at
 reads_bare = reads_then (reads_ident none) λ name. reads_yields value_goes (record { name = name; value = None })
 
-abbrev MemoryForm : Ident → Rule Variable
-MemoryForm name = IsRange IsWhole >>= λ range. yields (v.Memory name range)
-
 abbrev PlainForm : Ident → Rule Variable
 PlainForm name = optional IsValue >>= λ value. yields (v.Plain (record { name = name; value = value }))
-
-variable_to : (before after : List Token) (x : Variable) → (ident >>= λ name. (MemoryForm name <|> PlainForm name)) before after x → IsVariable before after x
-variable_to before after x (n, name, h, inl rest) = inr (n, name, h, rest)
-variable_to before after x (n, name, h, inr (n2, value, hv, rest)) = inl (n2, record { name = name; value = value }, (n, name, h, (n2, value, hv, (refl, refl))), rest)
-
-variable_from : (before after : List Token) (x : Variable) → IsVariable before after x → (ident >>= λ name. (MemoryForm name <|> PlainForm name)) before after x
-variable_from before after x (inr (n, name, h, rest)) = (n, name, h, inl rest)
-variable_from before after x (inl (n3, d, (n, name, h, (n2, value, hv, (ends, isd))), (ends2, is))) = (n, name, h, inr (n2, value, hv, (ends ∙ ends2, is ∙ ap (λ (y : Declared). v.Plain y) isd)))
 
 plain_differs : (name : Ident) → Differs (PlainForm name) value_goes (2 ∷ [])
 plain_differs name = record {
@@ -149,15 +133,13 @@ plain_differs name = record {
 
 reads_variable : Reads IsVariable value_goes 1 variable_at
 unfolding variable_at
-reads_variable = reads_same
-    (reads_then (reads_ident none) λ name. reads_choose 0 (only m.OpenBracket)
+reads_variable = reads_then (reads_ident none) λ name. reads_choose 0 (only m.OpenBracket)
     (reads_then (reads_range reads_whole) λ range. reads_yields value_goes (v.Memory name range))
     (reads_bind reads_value_option (λ value. reads_yields value_goes (v.Plain (record { name = name; value = value }))) (silent value_goes))
-    (omega arith) (omega arith) (begins_bind begins_range) (plain_differs name))
-    variable_to variable_from
+    (omega arith) (omega arith) (begins_bind begins_range) (plain_differs name)
 
 begins_variable : Begins IsVariable identifiers
-begins_variable = begins_or (begins_bind (begins_bind begins_ident)) (begins_bind begins_ident)
+begins_variable = begins_bind begins_ident
 
 -- ---- groups of settings
 
@@ -257,16 +239,6 @@ OutputForm = word k.Output >> ((word k.Reg >> yields p.OutputReg) <|> (flag k.Wi
 abbrev wire_goes : ℕ → Bool
 wire_goes x = among x (44 ∷ 45 ∷ [])
 
-kind_to : (before after : List Token) (x : PortKind) → (InputForm <|> OutputForm) before after x → IsPortKind before after x
-kind_to before after x (inl h) = inl (inl h)
-kind_to before after x (inr (n, at, h, inl rest)) = inr (n, at, h, rest)
-kind_to before after x (inr (n, at, h, inr rest)) = inl (inr (n, at, h, rest))
-
-kind_from : (before after : List Token) (x : PortKind) → IsPortKind before after x → (InputForm <|> OutputForm) before after x
-kind_from before after x (inl (inl h)) = inl h
-kind_from before after x (inl (inr (n, at, h, rest))) = inr (n, at, h, inr rest)
-kind_from before after x (inr (n, at, h, rest)) = inr (n, at, h, inl rest)
-
 only_wire : (rest : List Token) → next wire_goes rest ≡ false → next_in (44 ∷ []) rest ≡ false
 only_wire rest fin = next_fewer (44 ∷ []) (44 ∷ 45 ∷ []) rest refl fin
 
@@ -293,13 +265,11 @@ reads_output = reads_then (reads_word none k.Output) λ _. reads_choose 0 (these
 
 reads_kind : Reads IsPortKind wire_goes 1 port_kind_at
 unfolding port_kind_at
-reads_kind = reads_same
-    (reads_choose 1 (these k.Input) reads_input reads_output (omega arith) (omega arith) (begins_bind (begins_word k.Input)) (others (these k.Input) (43 ∷ []) refl (begins_bind (begins_word k.Output))))
-    kind_to kind_from
+reads_kind = reads_choose 1 (these k.Input) reads_input reads_output (omega arith) (omega arith)
+    (begins_bind (begins_word k.Input)) (others (these k.Input) (43 ∷ []) refl (begins_bind (begins_word k.Output)))
 
 begins_kind : Begins IsPortKind port_words
-begins_kind = begins_or (begins_or (begins_among (42 ∷ []) port_words refl (begins_bind (begins_word k.Input))) (begins_among (43 ∷ []) port_words refl (begins_bind (begins_word k.Output))))
-    (begins_among (43 ∷ []) port_words refl (begins_bind (begins_word k.Output)))
+begins_kind = begins_or (begins_among (42 ∷ []) port_words refl (begins_bind (begins_word k.Input))) (begins_among (43 ∷ []) port_words refl (begins_bind (begins_word k.Output)))
 
 reads_port : (kind_of : PortKind) → Reads (IsPort kind_of) value_goes 1 (port_at kind_of)
 reads_port p.Input = reads_bare
@@ -355,16 +325,16 @@ PortsForm = (mark m.OpenParen >>= λ _. PortListForm) <|> yields []
 
 ports_to : (before after : List Token) (x : List PortGroup) → PortsForm before after x → IsPorts before after x
 ports_to before after x (inr h) = inr h
-ports_to before after x (inl (n, a1, h1, inl rest)) = inl (inr (n, a1, h1, rest))
+ports_to before after x (inl (n, a1, h1, inl rest)) = inl (n, a1, h1, inl rest)
 ports_to before after x (inl (n, a1, h1, inr (n3, groups, hg, (n4, a3, h3, rest)))) =
     let l = list_to {E = PortForm} {P = IsPortGroup} port_words port_to goes_port n n3 groups hg in
     let same = closes port_words l.0 n3 n4 a3 refl h3 l.2 in
-    inl (inl (n, a1, h1, (n3, groups, subst (λ y. listed IsPortGroup n y groups) same l.1, (n4, a3, h3, rest))))
+    inl (n, a1, h1, inr (n3, groups, subst (λ y. listed IsPortGroup n y groups) same l.1, (n4, a3, h3, rest)))
 
 ports_from : (before after : List Token) (x : List PortGroup) → IsPorts before after x → PortsForm before after x
 ports_from before after x (inr h) = inr h
-ports_from before after x (inl (inr (n, a1, h1, rest))) = inl (n, a1, h1, inl rest)
-ports_from before after x (inl (inl (n, a1, h1, (n3, groups, hg, (n4, a3, h3, rest))))) =
+ports_from before after x (inl (n, a1, h1, inl rest)) = inl (n, a1, h1, inl rest)
+ports_from before after x (inl (n, a1, h1, inr (n3, groups, hg, (n4, a3, h3, rest)))) =
     inl (
       n,
       a1,
@@ -440,30 +410,32 @@ reads_assign_item = reads_then (reads_word none k.Assign) λ _.
     reads_bind (reads_listed expr_goes refl reads_setting) (λ settings. reads_then (reads_mark none m.Semicolon) λ _. reads_yields none (i.Assigns settings))
     (opens (list_goes expr_goes) (6 ∷ []) refl (λ settings. begins_bind (begins_mark m.Semicolon)))
 
+reads_any_event : Reads IsAnyEvent none 1 any_event_at
+unfolding any_event_at
+reads_any_event = reads_then (reads_mark none m.Star) λ _. reads_yields none events.Any
+
+reads_posedge : Reads IsPosedge none 1 posedge_at
+unfolding posedge_at
+reads_posedge = reads_then (reads_word none k.Posedge) λ _. reads_then (reads_ident none) λ name. reads_yields none (events.Posedge name)
+
+reads_inner_event : Reads (IsAnyEvent <|> IsPosedge) none 1 inner_event_at
+unfolding inner_event_at
+reads_inner_event = reads_choose 1 (only m.Star) reads_any_event reads_posedge (omega arith) (omega arith)
+    (begins_bind (begins_mark m.Star)) (others (only m.Star) (51 ∷ []) refl (begins_bind (begins_word k.Posedge)))
+
+reads_event_group : Reads IsEventGroup none 1 event_group_at
+unfolding event_group_at
+reads_event_group = reads_then (reads_mark none m.OpenParen) λ _. reads_then reads_inner_event λ event. reads_then (reads_mark none m.CloseParen) λ _. reads_yields none event
+
+reads_event : Reads (IsAnyEvent <|> IsEventGroup) none 1 event_at
+unfolding event_at
+reads_event = reads_choose 1 (only m.Star) reads_any_event reads_event_group (omega arith) (omega arith)
+    (begins_bind (begins_mark m.Star)) (others (only m.Star) (0 ∷ []) refl (begins_bind (begins_mark m.OpenParen)))
+
 reads_always_item : Reads IsAlwaysItem end_goes 1 always_item_at
 unfolding always_item_at
-reads_always_item = reads_then (reads_word none k.Always) λ _. reads_then (reads_mark none m.At) λ _. reads_then (reads_mark none m.OpenParen) λ _. reads_then (reads_word none k.Posedge) λ _.
-    reads_then (reads_ident none) λ event. reads_then (reads_mark none m.CloseParen) λ _.
-    reads_bind (reads_stmt 199).read_open (λ body. reads_yields end_goes (i.Always event body)) (silent end_goes)
-
-abbrev ItemForm : Rule Item
-ItemForm = IsParameterItem <|> (IsLocalParameterItem <|> (IsWireItem <|> (IsRegItem <|> (IsAssignItem <|> IsAlwaysItem))))
-
-item_to : (before after : List Token) (x : Item) → ItemForm before after x → IsItem before after x
-item_to before after x (inl h) = inl (inl (inl (inl (inl h))))
-item_to before after x (inr (inl h)) = inl (inl (inl (inl (inr h))))
-item_to before after x (inr (inr (inl h))) = inl (inl (inl (inr h)))
-item_to before after x (inr (inr (inr (inl h)))) = inl (inl (inr h))
-item_to before after x (inr (inr (inr (inr (inl h))))) = inl (inr h)
-item_to before after x (inr (inr (inr (inr (inr h))))) = inr h
-
-item_from : (before after : List Token) (x : Item) → IsItem before after x → ItemForm before after x
-item_from before after x (inl (inl (inl (inl (inl h))))) = inl h
-item_from before after x (inl (inl (inl (inl (inr h))))) = inr (inl h)
-item_from before after x (inl (inl (inl (inr h)))) = inr (inr (inl h))
-item_from before after x (inl (inl (inr h))) = inr (inr (inr (inl h)))
-item_from before after x (inl (inr h)) = inr (inr (inr (inr (inl h))))
-item_from before after x (inr h) = inr (inr (inr (inr (inr h))))
+reads_always_item = reads_then (reads_word none k.Always) λ _. reads_then (reads_mark none m.At) λ _. reads_then reads_event λ event.
+    reads_bind (reads_stmt inner_levels).read_open (λ body. reads_yields end_goes (i.Always event body)) (silent end_goes)
 
 abbrev item_kinds : List ℕ
 item_kinds = 47 ∷ 48 ∷ 44 ∷ 45 ∷ 49 ∷ 50 ∷ []
@@ -480,16 +452,12 @@ begins_wire = begins_or (begins_among (44 ∷ []) (44 ∷ 45 ∷ 49 ∷ 50 ∷ [
 begins_local : Begins (IsLocalParameterItem <|> (IsWireItem <|> (IsRegItem <|> (IsAssignItem <|> IsAlwaysItem)))) (48 ∷ 44 ∷ 45 ∷ 49 ∷ 50 ∷ [])
 begins_local = begins_or (begins_among (48 ∷ []) (48 ∷ 44 ∷ 45 ∷ 49 ∷ 50 ∷ []) refl (begins_bind (begins_word k.Localparam))) (begins_among (44 ∷ 45 ∷ 49 ∷ 50 ∷ []) (48 ∷ 44 ∷ 45 ∷ 49 ∷ 50 ∷ []) refl begins_wire)
 
-begins_form : Begins ItemForm item_kinds
-begins_form = begins_or (begins_among (47 ∷ []) item_kinds refl (begins_bind (begins_word k.Parameter))) (begins_among (48 ∷ 44 ∷ 45 ∷ 49 ∷ 50 ∷ []) item_kinds refl begins_local)
-
 begins_item : Begins IsItem item_kinds
-begins_item = record { first = λ before after x h. begins_form.first before after x (item_from before after x h) }
+begins_item = begins_or (begins_among (47 ∷ []) item_kinds refl (begins_bind (begins_word k.Parameter))) (begins_among (48 ∷ 44 ∷ 45 ∷ 49 ∷ 50 ∷ []) item_kinds refl begins_local)
 
 reads_item : Reads IsItem end_goes 1 item_at
 unfolding item_at
-reads_item = reads_same
-    (reads_choose 1 (these k.Parameter) (reads_closed end_goes reads_parameter_item)
+reads_item = reads_choose 1 (these k.Parameter) (reads_closed end_goes reads_parameter_item)
     (reads_choose 1 (these k.Localparam) (reads_closed end_goes reads_local_item)
     (reads_choose 1 (these k.Wire) (reads_closed end_goes reads_wire_item)
     (reads_choose 1 (these k.Reg) (reads_closed end_goes reads_reg_item)
@@ -498,8 +466,7 @@ reads_item = reads_same
     (omega arith) (omega arith) (begins_bind (begins_word k.Reg)) (others (these k.Reg) (49 ∷ 50 ∷ []) refl begins_last))
     (omega arith) (omega arith) (begins_bind (begins_word k.Wire)) (others (these k.Wire) (45 ∷ 49 ∷ 50 ∷ []) refl begins_reg))
     (omega arith) (omega arith) (begins_bind (begins_word k.Localparam)) (others (these k.Localparam) (44 ∷ 45 ∷ 49 ∷ 50 ∷ []) refl begins_wire))
-    (omega arith) (omega arith) (begins_bind (begins_word k.Parameter)) (others (these k.Parameter) (48 ∷ 44 ∷ 45 ∷ 49 ∷ 50 ∷ []) refl begins_local))
-    item_to item_from
+    (omega arith) (omega arith) (begins_bind (begins_word k.Parameter)) (others (these k.Parameter) (48 ∷ 44 ∷ 45 ∷ 49 ∷ 50 ∷ []) refl begins_local)
 
 -- ---- modules
 
@@ -514,10 +481,7 @@ item_loop = record {
 begins_ports : {B : Type 0} {Q : List PortGroup → Rule B} → ((groups : List PortGroup) → Begins (Q groups) (6 ∷ [])) → Begins (r.◌>>=◌ IsPorts Q) (0 ∷ 6 ∷ [])
 begins_ports q = record {
   first = λ before after b h. elim h.2 [
-    | inl y ↦ elim y [
-      | inl z ↦ (begins_among (0 ∷ []) (0 ∷ 6 ∷ []) refl (begins_mark m.OpenParen)).first before z.0 z.1 z.2
-      | inr z ↦ (begins_among (0 ∷ []) (0 ∷ 6 ∷ []) refl (begins_mark m.OpenParen)).first before z.0 z.1 z.2
-    ]
+    | inl y ↦ (begins_among (0 ∷ []) (0 ∷ 6 ∷ []) refl (begins_mark m.OpenParen)).first before y.0 y.1 y.2
     | inr y ↦ ap (next_in (0 ∷ 6 ∷ [])) y.0 ∙ (begins_among (6 ∷ []) (0 ∷ 6 ∷ []) refl (q h.1)).first h.0 after b h.3
   ];
 }
@@ -535,99 +499,7 @@ reads_module =
     (opens (λ x. among x (only m.OpenParen)) (6 ∷ []) refl (λ ports. begins_bind (begins_mark m.Semicolon))))
     (opens (λ x. among x (only m.Hash)) (0 ∷ 6 ∷ []) refl (λ parameters. begins_ports (λ ports. begins_bind (begins_mark m.Semicolon))))
 
--- ---- a token list derives at most one module, and where the reader stops, none does
+-- ---- what is no module is refused where the reader stops
 
-pub one_module : (tokens : List Token) (a b : Module) → Derives tokens a → Derives tokens b → a ≡ b
-one_module tokens a b one other = ok_value a b [] [] (sym (reads_module.whole tokens [] a one refl) ∙ reads_module.whole tokens [] b other refl)
-
--- Where the reader stops, no module goes on: not with any tokens behind the one at which it stops, and at the end not at all.
-
-err_not_ok : (s : List Token) (m : Module) → ◌≡◌ {A = Result (Module × List Token) (List Token)} (Err s) (Ok (m, [])) → ⊥
-err_not_ok s m e = cc
-
-more_not_end : (m n : Module) (t : Token) (l : List Token) → ◌≡◌ {A = Result (Module × List Token) (List Token)} (Ok (m, t ∷ l)) (Ok (n, [])) → ⊥
-more_not_end m n t l e = let p = ok_rest m n (t ∷ l) [] e in cc
-
-whole_module : (tokens : List Token) (m : Module) → Derives tokens m → module_at tokens ≡ Ok (m, [])
-whole_module tokens m h = reads_module.whole tokens [] m h refl
-
-stopped_dead : (front at : List Token) → ((other : List Token) → SameNext at other → module_at (front ++ other) ≡ Err other) → IsDead front at
-stopped_dead front [] again = λ n h. err_not_ok [] n (sym (again [] tt) ∙ ap module_at (append-nil front) ∙ whole_module front n h)
-stopped_dead front (t ∷ l) again = λ viable. let (more, n, h) = viable in
-    err_not_ok (t ∷ more) n (sym (again (t ∷ more) refl) ∙ ap module_at (sym (append_assoc front (t ∷ []) more)) ∙ whole_module ((front ++ t ∷ []) ++ more) n h)
-
-pub stopped_refused : (tokens at : List Token) (end : ℕ) → module_at tokens ≡ Err at → IsRefused tokens end (record { rule = E3; at = place_of at end })
-stopped_refused tokens at end e =
-    let s = reads_module.stopped tokens at e in
-    record {
-      rule = refl;
-      before = s.front;
-      rest = at;
-      split = s.split;
-      place = refl;
-      dead = stopped_dead s.front at s.again;
-      none = λ n h. err_not_ok at n (sym e ∙ whole_module tokens n h);
-    }
-
-pub behind_refused : (tokens l : List Token) (t : Token) (m : Module) (end : ℕ) → module_at tokens ≡ Ok (m, t ∷ l) → IsRefused tokens end (record { rule = E3; at = t.at })
-behind_refused tokens l t m end e =
-    let s = reads_module.kept tokens (t ∷ l) m e in
-    record {
-      rule = refl;
-      before = s.front;
-      rest = t ∷ l;
-      split = s.split;
-      place = refl;
-      dead = λ viable. let (more, n, h) = viable in
-          more_not_end m n t more (sym (s.again (t ∷ more) refl) ∙ ap module_at (sym (append_assoc s.front (t ∷ []) more)) ∙ whole_module ((s.front ++ t ∷ []) ++ more) n h);
-      none = λ n h. more_not_end m n t l (sym e ∙ whole_module tokens n h);
-    }
-
-pub read_derives : (tokens : List Token) (m : Module) → module_at tokens ≡ Ok (m, []) → Derives tokens m
-read_derives tokens m e = reads_module.sound tokens [] m e
-
-pub read_only : (tokens : List Token) (m n : Module) → module_at tokens ≡ Ok (m, []) → Derives tokens n → m ≡ n
-read_only tokens m n e h = ok_value m n [] [] (sym e ∙ whole_module tokens n h)
-
--- ---- what the parser makes of what was read
-
-end_list : (l : List Token) → eqb (length l) 0 ≡ true → l ≡ []
-end_list l e = nil_from_length l (eqb-true (length l) 0 e)
-
-more_list : (l : List Token) → eqb (length l) 0 ≡ false → (t : Token) × (rest : List Token) × (l ≡ t ∷ rest)
-more_list [] e = absurd cc
-more_list (t ∷ l) e = (t, l, refl)
-
-ends_with : (tokens rest : List Token) (m : Module) → module_at tokens ≡ Ok (m, rest) → eqb (length rest) 0 ≡ true → module_at tokens ≡ Ok (m, [])
-ends_with tokens rest m e is = e ∙ ap (λ l. Ok (m, l)) (end_list rest is)
-
-pub found_at_end : (tokens rest : List Token) (m : Module) → module_at tokens ≡ Ok (m, rest) → eqb (length rest) 0 ≡ true → Derives tokens m
-found_at_end tokens rest m e is = read_derives tokens m (ends_with tokens rest m e is)
-
-pub only_at_end : (tokens rest : List Token) (m n : Module) → module_at tokens ≡ Ok (m, rest) → eqb (length rest) 0 ≡ true → Derives tokens n → m ≡ n
-only_at_end tokens rest m n e is h = read_only tokens m n (ends_with tokens rest m e is) h
-
-pub refused_behind : (tokens rest : List Token) (m : Module) (end : ℕ) (fault : Fault) → module_at tokens ≡ Ok (m, rest) → eqb (length rest) 0 ≡ false
-    → fault ≡ record { rule = E3; at = place_of rest end } → IsRefused tokens end fault
-refused_behind tokens rest m end fault e is placed_at_rest =
-    let l = more_list rest is in
-    subst (IsRefused tokens end) (sym (placed_at_rest ∙ ap (λ (x : List Token). fault_of (place_of x end)) l.2))
-    (behind_refused tokens l.1 l.0 m end (e ∙ ap (λ x. Ok (m, x)) l.2))
-  where
-    fault_of : ℕ → Fault
-    fault_of at = record { rule = E3; at = at }
-
-pub none_behind : (tokens rest : List Token) (m n : Module) → module_at tokens ≡ Ok (m, rest) → eqb (length rest) 0 ≡ false → Derives tokens n → ⊥
-none_behind tokens rest m n e is h = let l = more_list rest is in more_not_end m n l.0 l.1 (ap (λ x. Ok (m, x)) (sym l.2) ∙ sym e ∙ whole_module tokens n h)
-
--- a reading that ended at a token
-abbrev pub EndsAt : Miss → (List Token → Type 0) → Type 0
-EndsAt miss.OutOfMemory P = ⊤
-EndsAt (miss.At s) P = P s.now
-
-ends_none : (tokens : List Token) (n : Module) (e : Miss) → Fails e (module_at tokens) → Derives tokens n → EndsAt e (λ s. ⊥)
-ends_none tokens n miss.OutOfMemory fails h = tt
-ends_none tokens n (miss.At s) fails h = err_not_ok s.now n (sym fails ∙ whole_module tokens n h)
-
-pub none_stopped : (tokens : List Token) (n : Module) (e why : Miss) → e ≡ why → Fails e (module_at tokens) → Derives tokens n → EndsAt why (λ s. ⊥)
-none_stopped tokens n e why is fails h = subst (λ x. EndsAt x (λ s. ⊥)) is (ends_none tokens n e fails h)
+pub stopped_refused : (tokens at : List Token) (end : ℕ) → module_at tokens ≡ Err at → IsRefused tokens end (record { rule = E3; at = first_place at end })
+stopped_refused tokens at end e = refused_stopped reads_module tokens at end e

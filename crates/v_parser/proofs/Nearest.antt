@@ -68,15 +68,15 @@ reads_if d p = reads_then (reads_word none k.If) λ _. reads_then reads_conditio
 
 stmt_to : (d : ℕ) (before after : List Token) (x : Stmt) → (IfForm d <|> IsSimple (IsStmt d false)) before after x → IsStmt (suc d) false before after x
 unfolding IsStmt
-stmt_to d before after x (inl (n, at, h, (n2, condition, hc, inl (n3, one, h1, (n5, other, (n4, at2, he, h2), rest))))) = inl (inr (n, at, h, (n2, condition, hc, (n3, one, h1, (n4, at2, he, (n5, other, h2, rest))))))
-stmt_to d before after x (inl (n, at, h, (n2, condition, hc, inr rest))) = inr (n, at, h, (n2, condition, hc, rest))
-stmt_to d before after x (inr h) = inl (inl h)
+stmt_to d before after x (inl (n, at, h, (n2, condition, hc, inl (n3, one, h1, (n5, other, (n4, at2, he, h2), rest))))) = inr (inl (n, at, h, (n2, condition, hc, (n3, one, h1, (n4, at2, he, (n5, other, h2, rest))))))
+stmt_to d before after x (inl (n, at, h, (n2, condition, hc, inr rest))) = inr (inr (n, at, h, (n2, condition, hc, rest)))
+stmt_to d before after x (inr h) = inl h
 
 stmt_from : (d : ℕ) (before after : List Token) (x : Stmt) → IsStmt (suc d) false before after x → (IfForm d <|> IsSimple (IsStmt d false)) before after x
 unfolding IsStmt
-stmt_from d before after x (inl (inl h)) = inr h
-stmt_from d before after x (inl (inr (n, at, h, (n2, condition, hc, (n3, one, h1, (n4, at2, he, (n5, other, h2, rest))))))) = inl (n, at, h, (n2, condition, hc, inl (n3, one, h1, (n5, other, (n4, at2, he, h2), rest))))
-stmt_from d before after x (inr (n, at, h, (n2, condition, hc, rest))) = inl (n, at, h, (n2, condition, hc, inr rest))
+stmt_from d before after x (inl h) = inr h
+stmt_from d before after x (inr (inl (n, at, h, (n2, condition, hc, (n3, one, h1, (n4, at2, he, (n5, other, h2, rest))))))) = inl (n, at, h, (n2, condition, hc, inl (n3, one, h1, (n5, other, (n4, at2, he, h2), rest))))
+stmt_from d before after x (inr (inr (n, at, h, (n2, condition, hc, rest)))) = inl (n, at, h, (n2, condition, hc, inr rest))
 
 both_ways : (b : Bool) → b ≡ true → b ≡ false → ⊥
 both_ways true p q = cc
@@ -95,7 +95,7 @@ if_closed d p before after x e goes =
     elim (chosen (next_in elses b3.1) (else_at f c one b3.1) (Ok (s.If c one, b3.1)) (Ok (x, after)) b3.3) [
       | inl y ↦
           let h = (reads_else c one (reads_given p.read_open)).sound b3.1 after x y.1 in
-          inl (inr (
+          inr (inl (
             b1.1,
             b1.0,
             (reads_word none k.If).sound before b1.1 b1.0 b1.2,
@@ -121,15 +121,15 @@ deep_sound : (d : ℕ) → ReadsStmt d → (before after : List Token) (x : Stmt
 unfolding IsStmt stmt_at
 deep_sound d p before after x e goes = elim (chosen (next_in ifs before) (if_at (stmt_at d) before) (simple_at (stmt_at d) before) (Ok (x, after)) e) [
   | inl y ↦ if_closed d p before after x y.1 goes
-  | inr y ↦ inl (inl ((reads_simple p.begins_open p.read_open).sound before after x y.1))
+  | inr y ↦ inl ((reads_simple p.begins_open p.read_open).sound before after x y.1)
 ]
 
 deep_whole : (d : ℕ) → ReadsStmt d → (before after : List Token) (x : Stmt) → IsStmt (suc d) true before after x → stmt_at (suc d) before ≡ Ok (x, after)
 unfolding IsStmt stmt_at if_at branches_at
-deep_whole d p before after x (inr h) = absurd h
-deep_whole d p before after x (inl (inl h)) =
+deep_whole d p before after x (inr (inr h)) = absurd h
+deep_whole d p before after x (inl h) =
     choose_false ifs (if_at (stmt_at d)) (simple_at (stmt_at d)) before (simple_first d before after x h) ∙ (reads_simple p.begins_open p.read_open).whole before after x h (next_none after)
-deep_whole d p before after x (inl (inr (n, at, h, (n2, c, hc, (n3, one, h1, (n4, at2, he, (n5, other, h2, rest))))))) =
+deep_whole d p before after x (inr (inl (n, at, h, (n2, c, hc, (n3, one, h1, (n4, at2, he, (n5, other, h2, rest))))))) =
     let f = stmt_at d in
     choose_true ifs (if_at f) (simple_at f) before ((begins_word k.If).first before n at h)
     ∙ ap (λ y. then_read y (λ _. read.◌>>=◌ condition_at (branches_at f))) ((reads_word none k.If).whole before n at h (next_none n))
@@ -139,8 +139,8 @@ deep_whole d p before after x (inl (inr (n, at, h, (n2, c, hc, (n3, one, h1, (n4
     ∙ (reads_else c one (reads_given p.read_open)).whole n3 after x (n5, other, (n4, at2, he, p.closed_whole n4 n5 other h2), rest) (next_none after)
 
 flat_begins : Begins IsFlat stmt_kinds
-flat_begins = begins_or (begins_or (begins_among (6 ∷ []) stmt_kinds refl (begins_bind (begins_mark m.Semicolon))) (begins_among begins stmt_kinds refl (begins_bind (begins_word k.Begin))))
-    (begins_among (60 ∷ 4 ∷ []) stmt_kinds refl begins_assign)
+flat_begins = begins_or (begins_among (6 ∷ []) stmt_kinds refl (begins_bind (begins_mark m.Semicolon)))
+    (begins_or (begins_among begins stmt_kinds refl (begins_bind (begins_word k.Begin))) (begins_among (60 ∷ 4 ∷ []) stmt_kinds refl begins_assign))
 
 pub reads_stmt : (d : ℕ) → ReadsStmt d
 unfolding IsStmt stmt_at
@@ -157,8 +157,8 @@ reads_stmt (suc d) =
           (reads_choose 1 ifs (reads_if d p) (reads_closed stmt_goes (reads_simple p.begins_open p.read_open)) (omega arith) (omega arith)
           (begins_bind (begins_word k.If)) (others ifs simple_kinds refl (begins_simple (IsStmt d false))))
           (stmt_to d) (stmt_from d);
-      begins_open = begins_or (begins_or (begins_among simple_kinds stmt_kinds refl (begins_simple (IsStmt d false))) (begins_among ifs stmt_kinds refl (begins_bind (begins_word k.If))))
-          (begins_among ifs stmt_kinds refl (begins_bind (begins_word k.If)));
+      begins_open = begins_or (begins_among simple_kinds stmt_kinds refl (begins_simple (IsStmt d false)))
+          (begins_or (begins_among ifs stmt_kinds refl (begins_bind (begins_word k.If))) (begins_among ifs stmt_kinds refl (begins_bind (begins_word k.If))));
       closed_sound = deep_sound d p;
       closed_whole = deep_whole d p;
     }

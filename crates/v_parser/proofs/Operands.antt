@@ -15,7 +15,7 @@ use Rattle.v_syntax.specs.Rule.{Rule, ◌>>=◌, ◌>>◌, ◌<|>◌, yields, ma
 use Rattle.v_syntax.specs.Grammar.{between, binary_of, rank_of, IsNumber, placed, IsLeaf, IsGroup, IsCast, IsPrefixed, IsOperandOver, chain, IsBinary, IsExprOver, nested, IsOperand, IsExpr}
 use Rattle.v_parser.specs.Reading as read
 use Rattle.v_parser.specs.Reading.{Reader, gives, choose, mark_code, word_code, kind, next, next_in, among, mark_at, word_at, repeated, is_comma, more_at, listed_at}
-use Rattle.v_parser.specs.Exprs.{identifiers, casts, numbers, only, number_at, part_at, other_arm_at, index_at, name_at, group_at, concat_at, replicate_at, braces_at, signed_at, prefixed_at, leaf_at, operand_over_at, link_at, binary_at, arms_at, expr_over_at, nested_at, operand_at, expr_at, has_rank, ranks}
+use Rattle.v_parser.specs.Exprs.{identifiers, casts, numbers, only, number_at, part_at, other_arm_at, index_at, name_at, group_at, concat_at, inner_parts_at, replicate_at, braces_at, signed_at, prefixed_at, leaf_at, operand_over_at, link_at, binary_at, arms_at, expr_over_at, nested_at, operand_at, expr_at, has_rank, ranks}
 use Rattle.v_parser.proofs.Exact.{Reads, Begins, reads_bind, reads_then, reads_yields, reads_choose, reads_same, reads_looser, reads_closed, begins_bind, begins_or, begins_among, none, apart, Parted, opens, silent, others, nothing, next_or, next_less, next_fewer}
 use Rattle.v_parser.proofs.Single.{reads_mark, reads_ident, reads_sign, reads_prefix, reads_between}
 use Rattle.v_parser.proofs.Many.{after_these, Repeats, reads_many, behind_one, reads_more, reads_listed, list_goes, begins_after}
@@ -89,13 +89,26 @@ ConcatForm expr brace first = after_these (mark m.Comma >> expr) (first ∷ []) 
 abbrev BraceForm : Rule Expr → Rule Expr
 BraceForm expr = mark m.OpenBrace >>= λ brace. placed expr >>= λ first. (ReplicateForm expr brace first <|> ConcatForm expr brace first.expr)
 
-reads_replicate : {expr : Rule Expr} {f : Reader Expr} (brace : ℕ) (count : Placed) → Reads expr expr_goes 1 f → Reads (ReplicateForm expr brace count) none 1 (replicate_at f brace count)
-unfolding replicate_at
-reads_replicate brace count p =
+abbrev InnerForm : Rule Expr → Rule (ℕ × List Expr)
+InnerForm expr = mark m.OpenBrace >>= λ inner. listed expr >>= λ parts. mark m.CloseBrace >> (mark m.CloseBrace >> yields (inner, parts))
+
+reads_inner : {expr : Rule Expr} {f : Reader Expr} → Reads expr expr_goes 1 f → Reads (InnerForm expr) none 1 (inner_parts_at f)
+unfolding inner_parts_at
+reads_inner p =
     reads_then (reads_mark none m.OpenBrace) λ inner.
     reads_bind (reads_listed expr_goes refl p)
-    (λ parts. reads_then (reads_mark none m.CloseBrace) λ _. reads_then (reads_mark none m.CloseBrace) λ _. reads_yields none (e.Replicate brace count.at count.expr inner parts))
+    (λ parts. reads_then (reads_mark none m.CloseBrace) λ _. reads_then (reads_mark none m.CloseBrace) λ _. reads_yields none (inner, parts))
     (opens (list_goes expr_goes) (5 ∷ []) refl (λ parts. begins_bind (begins_mark m.CloseBrace)))
+
+reads_replicate : {expr : Rule Expr} {f : Reader Expr} (brace : ℕ) (count : Placed) → Reads expr expr_goes 1 f → Reads (ReplicateForm expr brace count) none 1 (replicate_at f brace count)
+unfolding replicate_at
+reads_replicate brace count p = reads_same
+    (reads_then (reads_inner p) λ inner. reads_yields none (replicate inner))
+    (λ before after x (n, inner, (n1, at, h, (n2, parts, hp, (n3, at3, h3, (n4, at4, h4, (ends, is))))), (ends2, is2)). (n1, at, h, (n2, parts, hp, (n3, at3, h3, (n4, at4, h4, (ends ∙ ends2, is2 ∙ ap replicate is))))))
+    (λ before after x (n1, at, h, (n2, parts, hp, (n3, at3, h3, (n4, at4, h4, (ends, is))))). (after, (at, parts), (n1, at, h, (n2, parts, hp, (n3, at3, h3, (n4, at4, h4, (ends, refl))))), (refl, is)))
+  where
+    replicate : ℕ × List Expr → Expr
+    replicate inner = e.Replicate brace count.at count.expr inner.0 inner.1
 
 reads_concat : {expr : Rule Expr} {f : Reader Expr} (brace : ℕ) (first : Expr) → Reads expr expr_goes 1 f → Reads (ConcatForm expr brace first) none 0 (concat_at f brace first)
 unfolding concat_at
@@ -197,9 +210,9 @@ expr_placed begins [] after x h = absurd (no_true (begins.first [] after x h))
 expr_placed begins (t ∷ l) after x h = (t.at, (t ∷ l, t.at, (refl, (t.lexeme, l, refl)), (after, x, h, (refl, refl))))
 
 name_to : (operand expr : Rule Expr) (before after : List Token) (x : Expr) → NameForm expr before after x → IsOperandOver operand expr before after x
-name_to operand expr before after x (m, name, hi, inr rest) = inl (inl (inl (inl (inl (inl (inl (inr (m, name, hi, rest))))))))
+name_to operand expr before after x (m, name, hi, inr rest) = inl (inl (m, name, hi, rest))
 name_to operand expr before after x (m, name, hi, inl (m2, bracket, hb, (m3, first, hp, inl (m4, c, hc, (m5, lsb, hl, (m6, d, hd, (ends, is))))))) =
-    inl (inl (inl (inl (inl (inr (
+    inr (inr (inl (
       m,
       name,
       hi,
@@ -209,104 +222,58 @@ name_to operand expr before after x (m, name, hi, inl (m2, bracket, hb, (m3, fir
         (m2, bracket, hb, (m3, first, hp, (m4, c, hc, (m5, lsb, hl, (m6, d, hd, (ends, refl)))))),
         (refl, is),
       ),
-    ))))))
+    )))
 name_to operand expr before after x (m, name, hi, inl (m2, bracket, hb, (m3, first, hp, inr (m4, c, hc, rest)))) =
-    inl (inl (inl (inl (inl (inl (inr (m, name, hi, (m2, bracket, hb, (m3, first.expr, placed_expr m2 m3 first hp, (m4, c, hc, rest))))))))))
+    inr (inl (m, name, hi, (m2, bracket, hb, (m3, first.expr, placed_expr m2 m3 first hp, (m4, c, hc, rest)))))
 
 operand_to : (operand expr : Rule Expr) (before after : List Token) (x : Expr) → OperandForm operand expr before after x → IsOperandOver operand expr before after x
 operand_to operand expr before after x (inl h) = name_to operand expr before after x h
-operand_to operand expr before after x (inr (inl h)) = inl (inl (inl (inl (inl (inl (inl (inl h)))))))
-operand_to operand expr before after x (inr (inr (inl h))) = inl (inl (inl (inl (inr h))))
-operand_to operand expr before after x (inr (inr (inr (inl (m, brace, hb, (m2, first, hp, inl rest)))))) = inl (inl (inr (m, brace, hb, (m2, first, hp, rest))))
+operand_to operand expr before after x (inr (inl h)) = inl (inr h)
+operand_to operand expr before after x (inr (inr (inl h))) = inr (inr (inr (inl h)))
+operand_to operand expr before after x (inr (inr (inr (inl (m, brace, hb, (m2, first, hp, inl rest)))))) = inr (inr (inr (inr (inr (inl (m, brace, hb, (m2, first, hp, rest)))))))
 operand_to operand expr before after x (inr (inr (inr (inl (m, brace, hb, (m2, first, hp, inr (m3, parts, (more, is, hm), rest))))))) =
-    inl (inl (inl (inr (m, brace, hb, (m3, parts, (m2, first.expr, placed_expr m m2 first hp, (m3, more, hm, (refl, is))), rest)))))
-operand_to operand expr before after x (inr (inr (inr (inr (inl h))))) = inl (inr h)
-operand_to operand expr before after x (inr (inr (inr (inr (inr h))))) = inr h
+    inr (inr (inr (inr (inl (m, brace, hb, (m3, parts, (m2, first.expr, placed_expr m m2 first hp, (m3, more, hm, (refl, is))), rest))))))
+operand_to operand expr before after x (inr (inr (inr (inr h)))) = inr (inr (inr (inr (inr (inr h)))))
 
 operand_from : {kinds : List ℕ} (operand expr : Rule Expr) → Begins expr kinds → (before after : List Token) (x : Expr) → IsOperandOver operand expr before after x → OperandForm operand expr before after x
-operand_from operand expr begins before after x (inr h) = inr (inr (inr (inr (inr h))))
-operand_from operand expr begins before after x (inl (inr h)) = inr (inr (inr (inr (inl h))))
-operand_from operand expr begins before after x (inl (inl (inr (m, brace, hb, (m2, first, hp, rest))))) = inr (inr (inr (inl (m, brace, hb, (m2, first, hp, inl rest)))))
-operand_from operand expr begins before after x (inl (inl (inl (inr (n, brace, hb, (m3, parts, (m2, first, he, (m4, more, hm, (ends, is))), rest)))))) =
+operand_from operand expr begins before after x (inr (inr (inr (inr (inr (inr h)))))) = inr (inr (inr (inr h)))
+operand_from operand expr begins before after x (inr (inr (inr (inr (inr (inl (m, brace, hb, (m2, first, hp, rest)))))))) = inr (inr (inr (inl (m, brace, hb, (m2, first, hp, inl rest)))))
+operand_from operand expr begins before after x (inr (inr (inr (inr (inl (n, brace, hb, (m3, parts, (m2, first, he, (m4, more, hm, (ends, is))), rest))))))) =
     let p = expr_placed begins n m2 first he in
     inr (inr (inr (inl (n, brace, hb, (m2, record { at = p.0; expr = first }, p.1, inr (m3, parts, (more, is, subst (λ l. many (mark m.Comma >> expr) m2 l more) ends hm), rest))))))
-operand_from operand expr begins before after x (inl (inl (inl (inl (inr h))))) = inr (inr (inl h))
-operand_from operand expr begins before after x (inl (inl (inl (inl (inl (inr (m, name, hi, (n, range, (m2, bracket, hb, (m3, msb, hp, (m4, c, hc, (m5, lsb, hl, (m6, d, hd, (ends, isr)))))), (ends2, is))))))))) =
-    inl (
-      m,
-      name,
-      hi,
-      inl (
-        m2,
-        bracket,
-        hb,
-        (
-          m3,
-          msb,
-          hp,
-          inl (
-            m4,
-            c,
-            hc,
-            (
-              m5,
-              lsb,
-              hl,
-              (
-                m6,
-                d,
-                hd,
-                (
-                  ends ∙ ends2,
-                  is ∙ ap (λ (y : Range). e.Part name y.bracket y.msb.at y.msb.expr y.lsb.at y.lsb.expr) isr,
-                ),
-              ),
-            ),
-          ),
-        ),
-      ),
-    )
-operand_from operand expr begins before after x (inl (inl (inl (inl (inl (inl (inr (m, name, hi, (m2, bracket, hb, (m3, index, he, rest)))))))))) =
+operand_from operand expr begins before after x (inr (inr (inr (inl h)))) = inr (inr (inl h))
+operand_from operand expr begins before after x (inr (inr (inl (m, name, hi, (n, range, (m2, bracket, hb, (m3, msb, hp, (m4, c, hc, (m5, lsb, hl, (m6, d, hd, (ends, isr)))))), (ends2, is)))))) =
+    let same = is ∙ ap (λ (y : Range). e.Part name y.bracket y.msb.at y.msb.expr y.lsb.at y.lsb.expr) isr in
+    inl (m, name, hi, inl (m2, bracket, hb, (m3, msb, hp, inl (m4, c, hc, (m5, lsb, hl, (m6, d, hd, (ends ∙ ends2, same)))))))
+operand_from operand expr begins before after x (inr (inl (m, name, hi, (m2, bracket, hb, (m3, index, he, rest))))) =
     let p = expr_placed begins m2 m3 index he in
     inl (m, name, hi, inl (m2, bracket, hb, (m3, record { at = p.0; expr = index }, p.1, inr rest)))
-operand_from operand expr begins before after x (inl (inl (inl (inl (inl (inl (inl (inl h)))))))) = inr (inl h)
-operand_from operand expr begins before after x (inl (inl (inl (inl (inl (inl (inl (inr (m, name, hi, rest))))))))) = inl (m, name, hi, inr rest)
+operand_from operand expr begins before after x (inl (inr h)) = inr (inl h)
+operand_from operand expr begins before after x (inl (inl (m, name, hi, rest))) = inl (m, name, hi, inr rest)
 
 pub reads_operand_over : {operand expr : Rule Expr} {f g : Reader Expr} {kinds : List ℕ} → Begins expr kinds → Reads operand operand_goes 1 f → Reads expr expr_goes 1 g
     → Reads (IsOperandOver operand expr) operand_goes 1 (operand_over_at f g)
 reads_operand_over {operand = operand} {expr = expr} begins p q = reads_same (reads_form p q) (operand_to operand expr) (operand_from operand expr begins)
 
 begins_leaf : Begins IsLeaf (60 ∷ 61 ∷ 62 ∷ [])
-begins_leaf = begins_or (begins_among numbers (60 ∷ 61 ∷ 62 ∷ []) refl (begins_bind begins_number)) (begins_among identifiers (60 ∷ 61 ∷ 62 ∷ []) refl (begins_bind begins_ident))
+begins_leaf = begins_or (begins_among identifiers (60 ∷ 61 ∷ 62 ∷ []) refl (begins_bind begins_ident)) (begins_among numbers (60 ∷ 61 ∷ 62 ∷ []) refl (begins_bind begins_number))
 
 begins_operand_over : (operand expr : Rule Expr) → Begins (IsOperandOver operand expr) expr_kinds
 begins_operand_over operand expr =
-    begins_or (begins_or (begins_or (begins_or (begins_or (begins_or (begins_or
-    (begins_among (60 ∷ 61 ∷ 62 ∷ []) expr_kinds refl begins_leaf)
-    (begins_among identifiers expr_kinds refl (begins_bind begins_ident)))
-    (begins_among identifiers expr_kinds refl (begins_bind begins_ident)))
-    (begins_among (0 ∷ []) expr_kinds refl (begins_bind (begins_mark m.OpenParen))))
-    (begins_among (4 ∷ []) expr_kinds refl (begins_bind (begins_mark m.OpenBrace))))
-    (begins_among (4 ∷ []) expr_kinds refl (begins_bind (begins_mark m.OpenBrace))))
-    (begins_among casts expr_kinds refl (begins_bind begins_cast)))
-    (begins_among prefixes expr_kinds refl (begins_prefixed operand))
-
-abbrev LeafForm : Rule Expr
-LeafForm = (ident >>= λ name. yields (e.Name name)) <|> NumberExpr
-
-leaf_to : (before after : List Token) (x : Expr) → LeafForm before after x → IsLeaf before after x
-leaf_to before after x (inl h) = inr h
-leaf_to before after x (inr h) = inl h
-
-leaf_from : (before after : List Token) (x : Expr) → IsLeaf before after x → LeafForm before after x
-leaf_from before after x (inl h) = inr h
-leaf_from before after x (inr h) = inl h
+    begins_or (begins_among (60 ∷ 61 ∷ 62 ∷ []) expr_kinds refl begins_leaf)
+    (begins_or (begins_among identifiers expr_kinds refl (begins_bind begins_ident))
+    (begins_or (begins_among identifiers expr_kinds refl (begins_bind begins_ident))
+    (begins_or (begins_among (0 ∷ []) expr_kinds refl (begins_bind (begins_mark m.OpenParen)))
+    (begins_or (begins_among (4 ∷ []) expr_kinds refl (begins_bind (begins_mark m.OpenBrace)))
+    (begins_or (begins_among (4 ∷ []) expr_kinds refl (begins_bind (begins_mark m.OpenBrace)))
+    (begins_or (begins_among casts expr_kinds refl (begins_bind begins_cast))
+    (begins_among prefixes expr_kinds refl (begins_prefixed operand))))))))
 
 reads_leaf : Reads IsLeaf operand_goes 1 leaf_at
 unfolding leaf_at
-reads_leaf = reads_same (reads_choose 1 identifiers
+reads_leaf = reads_choose 1 identifiers
     (reads_then (reads_ident none) (λ name. reads_yields operand_goes (e.Name name))) reads_number_expr (omega arith) (omega arith)
-    (begins_bind begins_ident) (others identifiers numbers refl (begins_bind begins_number))) leaf_to leaf_from
+    (begins_bind begins_ident) (others identifiers numbers refl (begins_bind begins_number))
 
 -- ---- chains
 

@@ -9,7 +9,7 @@ use Rattle.v_syntax.specs.declared.expr.Number.{Number}
 use Rattle.v_syntax.specs.declared.expr.Spelling.TheVariants as s
 use Rattle.v_syntax.specs.declared.expr.UnaryOperator.{UnaryOperator}
 use Rattle.v_syntax.specs.Rule.{Rule, ◌>>=◌, ◌<|>◌, yields, mark, ident}
-use Rattle.v_syntax.specs.Grammar.{decimal, based, cast, prefix, unary_of, IsNumber, placed, IsRange}
+use Rattle.v_syntax.specs.Grammar.{decimal, based, cast, prefix, unary_of, IsSized, IsNumber, placed, IsRange}
 use Rattle.v_parser.specs.Reading as read
 use Rattle.v_parser.specs.Reading.{Reader, gives, choose, mark_code, word_code, kind, next, next_in, among, mark_at, word_at, repeated, is_comma, more_at, listed_at}
 use Rattle.v_parser.specs.Exprs.{identifiers, decimals, baseds, casts, numbers, based_at, number_at, placed_at, range_at, ranks}
@@ -85,45 +85,26 @@ begins_prefix = record { first = λ before after op h. ap (next_in prefixes) h.2
 abbrev pub number_goes : ℕ → Bool
 number_goes x = among x baseds
 
--- the number behind its decimal digits
-abbrev Sized : ℕ × List ℕ → Rule Number
-Sized d = (based >>= λ x. yields (record { at = d.0; spelling = s.Sized d.1 x.1 })) <|> yields (record { at = d.0; spelling = s.Decimal d.1 })
-
-abbrev NumberForm : Rule Number
-NumberForm = (decimal >>= λ d. Sized d) <|> (based >>= λ x. yields (record { at = x.0; spelling = s.Based x.1 }))
-
 abbrev sized_at : ℕ × List ℕ → Reader Number
 sized_at d = choose baseds (read.◌>>=◌ based_at λ x. gives (record { at = d.0; spelling = s.Sized d.1 x.1 })) (gives (record { at = d.0; spelling = s.Decimal d.1 }))
 
-reads_sized : (d : ℕ × List ℕ) → Reads (Sized d) number_goes 0 (sized_at d)
+reads_sized : (d : ℕ × List ℕ) → Reads (IsSized d) number_goes 0 (sized_at d)
 reads_sized d = reads_choose 0 baseds
     (reads_then (reads_based none) (λ x. reads_yields number_goes (record { at = d.0; spelling = s.Sized d.1 x.1 })))
     (reads_yields number_goes (record { at = d.0; spelling = s.Decimal d.1 })) (omega arith) (omega arith)
     (begins_bind begins_based)
     (nothing baseds (λ l fin. fin))
 
-number_to : (before after : List Token) (n : Number) → NumberForm before after n → IsNumber before after n
-number_to before after n (inl (m, d, h, inl x)) = inl (inr (m, d, h, x))
-number_to before after n (inl (m, d, h, inr x)) = inl (inl (m, d, h, x))
-number_to before after n (inr x) = inr x
-
-number_from : (before after : List Token) (n : Number) → IsNumber before after n → NumberForm before after n
-number_from before after n (inl (inl (m, d, h, x))) = inl (m, d, h, inr x)
-number_from before after n (inl (inr (m, d, h, x))) = inl (m, d, h, inl x)
-number_from before after n (inr x) = inr x
-
 pub reads_number : Reads IsNumber number_goes 1 number_at
 unfolding number_at
-reads_number = reads_same (reads_choose 1 decimals
+reads_number = reads_choose 1 decimals
     (reads_then (reads_decimal none) reads_sized)
     (reads_then (reads_based none) (λ x. reads_yields number_goes (record { at = x.0; spelling = s.Based x.1 }))) (omega arith) (omega arith)
     (begins_bind begins_decimal)
-    (others decimals baseds refl (begins_bind begins_based)))
-    number_to number_from
+    (others decimals baseds refl (begins_bind begins_based))
 
 pub begins_number : Begins IsNumber numbers
-begins_number = begins_or (begins_or (begins_among decimals numbers refl (begins_bind begins_decimal)) (begins_among decimals numbers refl (begins_bind begins_decimal)))
-    (begins_among baseds numbers refl (begins_bind begins_based))
+begins_number = begins_or (begins_among decimals numbers refl (begins_bind begins_decimal)) (begins_among baseds numbers refl (begins_bind begins_based))
 
 -- ---- what can go on an expression, and what begins one
 

@@ -1,5 +1,5 @@
 -- The readers of statements read the grammar's statements.
-use Rattle.std.proofs.Common.{ℕ, Bool, List, [], ◌∷◌, refl, subst, inl, inr, arith}
+use Rattle.std.proofs.Common.{ℕ, Bool, List, [], ◌∷◌, refl, ap, ◌∙◌, subst, inl, inr, arith}
 use Rattle.v_syntax.specs.declared.token.Token.{Token}
 use Rattle.v_syntax.specs.declared.token.Mark.TheVariants as m
 use Rattle.v_syntax.specs.declared.token.Keyword.TheVariants as k
@@ -7,13 +7,15 @@ use Rattle.v_syntax.specs.declared.stmt.AssignKind.TheVariants as a
 use Rattle.v_syntax.specs.declared.stmt.CaseKind.TheVariants as c
 use Rattle.v_syntax.specs.declared.stmt.Label.{Label}
 use Rattle.v_syntax.specs.declared.stmt.Label.TheVariants as l
+use Rattle.v_syntax.specs.declared.stmt.Arm.{Arm}
 use Rattle.v_syntax.specs.declared.stmt.Stmt.{Stmt}
 use Rattle.v_syntax.specs.declared.stmt.Stmt.TheVariants as s
 use Rattle.v_syntax.specs.Rule.{Rule, ◌>>=◌, ◌>>◌, ◌<|>◌, yields, mark, word, many, listed, several}
+use Rattle.v_syntax.specs.Grammar.{inner_levels}
 use Rattle.v_syntax.specs.StmtGrammar.{IsWhole, IsAssignKind, IsAssign, IsNull, IsBlock, IsEmptyBlock, IsCondition, IsCaseKind, IsLabel, IsArm, IsCase, IsFlat, IsSimple}
 use Rattle.v_parser.specs.Reading.{Reader, among}
 use Rattle.v_parser.specs.Exprs.{only}
-use Rattle.v_parser.specs.Stmts.{assign_kind_at, assigned_at, assign_at, null_at, begins, elses, plain_cases, cases, defaults, not_end, not_endcase, empty_block_at, block_at, condition_at, case_kind_at, items_at, default_at, label_at, arm_at, arms_of_at, case_at, flat_at, simple_at}
+use Rattle.v_parser.specs.Stmts.{assign_kind_at, assigned_at, assign_at, null_at, begins, elses, plain_cases, cases, defaults, not_end, not_endcase, empty_block_at, block_at, condition_at, case_kind_at, items_at, default_at, label_at, arm_at, arms_of_at, case_body_at, case_at, flat_at, simple_at}
 use Rattle.v_parser.proofs.Exact.{Reads, Begins, reads_bind, reads_then, reads_yields, reads_choose, reads_same, reads_closed, begins_bind, begins_or, begins_among, none, apart, opens, silent, others, nothing, passes, only_end}
 use Rattle.v_parser.proofs.Single.{reads_mark, reads_word}
 use Rattle.v_parser.proofs.Many.{Repeats, reads_after, reads_many, behind_one, reads_listed, list_goes}
@@ -35,14 +37,14 @@ begins_assign_kind = begins_or (begins_among (13 ∷ []) (13 ∷ 28 ∷ []) refl
 reads_assign : Reads IsAssign none 1 assign_at
 unfolding assign_at assigned_at
 reads_assign =
-    reads_bind (reads_target 199) (λ target.
+    reads_bind (reads_target inner_levels) (λ target.
     reads_then reads_assign_kind λ kind.
     reads_bind reads_whole (λ value. reads_then (reads_mark none m.Semicolon) λ _. reads_yields none (s.Assign target kind value))
     (opens expr_goes (6 ∷ []) refl (λ value. begins_bind (begins_mark m.Semicolon))))
     (opens target_goes (13 ∷ 28 ∷ []) refl (λ target. begins_bind begins_assign_kind))
 
 pub begins_assign : Begins IsAssign (60 ∷ 4 ∷ [])
-begins_assign = begins_bind (begins_target 199)
+begins_assign = begins_bind (begins_target inner_levels)
 
 reads_null : Reads IsNull none 1 null_at
 unfolding null_at
@@ -61,25 +63,13 @@ reads_empty_block : Reads IsEmptyBlock none 1 empty_block_at
 unfolding empty_block_at
 reads_empty_block = reads_then (reads_word none k.Begin) λ _. reads_then (reads_word none k.End) λ _. reads_yields none (s.Block [])
 
-regroup_flat : (before after : List Token) (x : Stmt) → (IsNull <|> (IsEmptyBlock <|> IsAssign)) before after x → IsFlat before after x
-regroup_flat before after x (inl h) = inl (inl h)
-regroup_flat before after x (inr (inl h)) = inl (inr h)
-regroup_flat before after x (inr (inr h)) = inr h
-
-ungroup_flat : (before after : List Token) (x : Stmt) → IsFlat before after x → (IsNull <|> (IsEmptyBlock <|> IsAssign)) before after x
-ungroup_flat before after x (inl (inl h)) = inl h
-ungroup_flat before after x (inl (inr h)) = inr (inl h)
-ungroup_flat before after x (inr h) = inr (inr h)
-
 pub reads_flat : Reads IsFlat none 1 flat_at
 unfolding flat_at
-reads_flat = reads_same
-    (reads_choose 1 (only m.Semicolon) reads_null
+reads_flat = reads_choose 1 (only m.Semicolon) reads_null
     (reads_choose 1 begins reads_empty_block reads_assign (omega arith) (omega arith) (begins_bind (begins_word k.Begin)) (others begins (60 ∷ 4 ∷ []) refl begins_assign))
     (omega arith) (omega arith) (begins_bind (begins_mark m.Semicolon))
     (others (only m.Semicolon) (52 ∷ 60 ∷ 4 ∷ []) refl
-    (begins_or (begins_among begins (52 ∷ 60 ∷ 4 ∷ []) refl (begins_bind (begins_word k.Begin))) (begins_among (60 ∷ 4 ∷ []) (52 ∷ 60 ∷ 4 ∷ []) refl begins_assign))))
-    regroup_flat ungroup_flat
+    (begins_or (begins_among begins (52 ∷ 60 ∷ 4 ∷ []) refl (begins_bind (begins_word k.Begin))) (begins_among (60 ∷ 4 ∷ []) (52 ∷ 60 ∷ 4 ∷ []) refl begins_assign)))
 
 -- ---- the kinds with which a statement begins, and with which one goes on
 
@@ -125,29 +115,16 @@ reads_default = reads_then (reads_word none k.Default) λ at. reads_choose 0 (on
     (reads_then (reads_mark none m.Colon) λ _. reads_yields colon_goes (l.Default at)) (reads_yields colon_goes (l.Default at)) (omega arith) (omega arith)
     (begins_bind (begins_mark m.Colon)) (nothing (only m.Colon) (λ rest fin. fin))
 
-label_to : (before after : List Token) (x : Label) → (DefaultForm <|> (listed IsWhole >>= λ items. mark m.Colon >> yields (l.Items items))) before after x → IsLabel before after x
-label_to before after x (inr h) = inl (inl h)
-label_to before after x (inl (n, at, h, inl rest)) = inl (inr (n, at, h, rest))
-label_to before after x (inl (n, at, h, inr rest)) = inr (n, at, h, rest)
-
-label_from : (before after : List Token) (x : Label) → IsLabel before after x → (DefaultForm <|> (listed IsWhole >>= λ items. mark m.Colon >> yields (l.Items items))) before after x
-label_from before after x (inl (inl h)) = inr h
-label_from before after x (inl (inr (n, at, h, rest))) = inl (n, at, h, inl rest)
-label_from before after x (inr (n, at, h, rest)) = inl (n, at, h, inr rest)
-
 reads_label : Reads IsLabel colon_goes 1 label_at
 unfolding label_at
-reads_label = reads_same
-    (reads_choose 1 defaults reads_default (reads_closed colon_goes reads_items) (omega arith) (omega arith)
-    (begins_bind (begins_word k.Default)) (others defaults expr_kinds refl (begins_bind (begins_bind begins_whole))))
-    label_to label_from
+reads_label = reads_choose 1 defaults reads_default (reads_closed colon_goes reads_items) (omega arith) (omega arith)
+    (begins_bind (begins_word k.Default)) (others defaults expr_kinds refl (begins_bind (begins_bind begins_whole)))
 
 abbrev label_kinds : List ℕ
 label_kinds = 59 ∷ expr_kinds
 
 begins_label : Begins IsLabel label_kinds
-begins_label = begins_or (begins_or (begins_among expr_kinds label_kinds refl (begins_bind (begins_bind begins_whole))) (begins_among (59 ∷ []) label_kinds refl (begins_bind (begins_word k.Default))))
-    (begins_among (59 ∷ []) label_kinds refl (begins_bind (begins_word k.Default)))
+begins_label = begins_or (begins_among (59 ∷ []) label_kinds refl (begins_bind (begins_word k.Default))) (begins_among expr_kinds label_kinds refl (begins_bind (begins_bind begins_whole)))
 
 reads_arm : {stmt : Rule Stmt} {f : Reader Stmt} → Begins stmt stmt_kinds → Reads stmt stmt_goes 1 f → Reads (IsArm stmt) stmt_goes 1 (arm_at f)
 unfolding arm_at
@@ -187,26 +164,25 @@ reads_case_kind = reads_choose 1 plain_cases
 begins_case_kind : Begins IsCaseKind cases
 begins_case_kind = begins_or (begins_among (56 ∷ []) cases refl (begins_bind (begins_word k.Case))) (begins_among (57 ∷ []) cases refl (begins_bind (begins_word k.Casez)))
 
-reads_case : {stmt : Rule Stmt} {f : Reader Stmt} → Begins stmt stmt_kinds → Reads stmt stmt_goes 1 f → Reads (IsCase stmt) none 1 (case_at f)
-unfolding case_at
-reads_case b p =
-    reads_then reads_case_kind λ kind. reads_then reads_condition λ subject.
-    reads_bind (reads_arms_of b p) (λ arms. reads_then (reads_word none k.Endcase) λ _. reads_yields none (s.Case kind subject arms))
+abbrev CaseBody : Rule Stmt → Rule (List Arm)
+CaseBody stmt = several (IsArm stmt) >>= λ arms. word k.Endcase >> yields arms
+
+reads_case_body : {stmt : Rule Stmt} {f : Reader Stmt} → Begins stmt stmt_kinds → Reads stmt stmt_goes 1 f → Reads (CaseBody stmt) none 1 (case_body_at f)
+unfolding case_body_at
+reads_case_body b p =
+    reads_bind (reads_arms_of b p) (λ arms. reads_then (reads_word none k.Endcase) λ _. reads_yields none arms)
     (opens not_endcase (58 ∷ []) refl (λ arms. begins_bind (begins_word k.Endcase)))
 
+reads_case : {stmt : Rule Stmt} {f : Reader Stmt} → Begins stmt stmt_kinds → Reads stmt stmt_goes 1 f → Reads (IsCase stmt) none 1 (case_at f)
+unfolding case_at
+reads_case b p = reads_same
+    (reads_then reads_case_kind λ kind. reads_then reads_condition λ subject. reads_then (reads_case_body b p) λ arms. reads_yields none (s.Case kind subject arms))
+    (λ before after x (n1, kind, hk, (n2, subject, hs, (n3, arms, (n4, all, ha, (n5, at, he, (ends, is))), (ends2, is2)))).
+    (n1, kind, hk, (n2, subject, hs, (n4, all, ha, (n5, at, he, (ends ∙ ends2, is2 ∙ ap (λ (y : List Arm). s.Case kind subject y) is))))))
+    (λ before after x (n1, kind, hk, (n2, subject, hs, (n4, arms, ha, (n5, at, he, (ends, is))))).
+    (n1, kind, hk, (n2, subject, hs, (after, arms, (n4, arms, ha, (n5, at, he, (ends, refl))), (refl, is)))))
+
 -- ---- statements other than if
-
-regroup : (stmt : Rule Stmt) (before after : List Token) (x : Stmt) → (IsNull <|> (IsBlock stmt <|> (IsCase stmt <|> IsAssign))) before after x → IsSimple stmt before after x
-regroup stmt before after x (inl h) = inl (inl (inl h))
-regroup stmt before after x (inr (inl h)) = inl (inl (inr h))
-regroup stmt before after x (inr (inr (inl h))) = inl (inr h)
-regroup stmt before after x (inr (inr (inr h))) = inr h
-
-ungroup : (stmt : Rule Stmt) (before after : List Token) (x : Stmt) → IsSimple stmt before after x → (IsNull <|> (IsBlock stmt <|> (IsCase stmt <|> IsAssign))) before after x
-ungroup stmt before after x (inl (inl (inl h))) = inl h
-ungroup stmt before after x (inl (inl (inr h))) = inr (inl h)
-ungroup stmt before after x (inl (inr h)) = inr (inr (inl h))
-ungroup stmt before after x (inr h) = inr (inr (inr h))
 
 begins_assign_or : (stmt : Rule Stmt) → Begins (IsCase stmt <|> IsAssign) (56 ∷ 57 ∷ 60 ∷ 4 ∷ [])
 begins_assign_or stmt = begins_or (begins_among cases (56 ∷ 57 ∷ 60 ∷ 4 ∷ []) refl (begins_bind begins_case_kind)) (begins_among (60 ∷ 4 ∷ []) (56 ∷ 57 ∷ 60 ∷ 4 ∷ []) refl begins_assign)
@@ -218,18 +194,12 @@ abbrev pub simple_kinds : List ℕ
 simple_kinds = 6 ∷ 52 ∷ 56 ∷ 57 ∷ 60 ∷ 4 ∷ []
 
 pub begins_simple : (stmt : Rule Stmt) → Begins (IsSimple stmt) simple_kinds
-begins_simple stmt = begins_or (begins_or (begins_or
-    (begins_among (6 ∷ []) simple_kinds refl (begins_bind (begins_mark m.Semicolon)))
-    (begins_among begins simple_kinds refl (begins_bind (begins_word k.Begin))))
-    (begins_among cases simple_kinds refl (begins_bind begins_case_kind)))
-    (begins_among (60 ∷ 4 ∷ []) simple_kinds refl begins_assign)
+begins_simple stmt = begins_or (begins_among (6 ∷ []) simple_kinds refl (begins_bind (begins_mark m.Semicolon))) (begins_among (52 ∷ 56 ∷ 57 ∷ 60 ∷ 4 ∷ []) simple_kinds refl (begins_block_or stmt))
 
 pub reads_simple : {stmt : Rule Stmt} {f : Reader Stmt} → Begins stmt stmt_kinds → Reads stmt stmt_goes 1 f → Reads (IsSimple stmt) none 1 (simple_at f)
 unfolding simple_at
-reads_simple {stmt = stmt} b p = reads_same
-    (reads_choose 1 (only m.Semicolon) reads_null
+reads_simple {stmt = stmt} b p = reads_choose 1 (only m.Semicolon) reads_null
     (reads_choose 1 begins (reads_block b p)
     (reads_choose 1 cases (reads_case b p) reads_assign (omega arith) (omega arith) (begins_bind begins_case_kind) (others cases (60 ∷ 4 ∷ []) refl begins_assign))
     (omega arith) (omega arith) (begins_bind (begins_word k.Begin)) (others begins (56 ∷ 57 ∷ 60 ∷ 4 ∷ []) refl (begins_assign_or stmt)))
-    (omega arith) (omega arith) (begins_bind (begins_mark m.Semicolon)) (others (only m.Semicolon) (52 ∷ 56 ∷ 57 ∷ 60 ∷ 4 ∷ []) refl (begins_block_or stmt)))
-    (regroup stmt) (ungroup stmt)
+    (omega arith) (omega arith) (begins_bind (begins_mark m.Semicolon)) (others (only m.Semicolon) (52 ∷ 56 ∷ 57 ∷ 60 ∷ 4 ∷ []) refl (begins_block_or stmt))

@@ -10,7 +10,7 @@ use Rattle.v_syntax.specs.declared.expr.Range.{Range}
 use Rattle.v_syntax.specs.declared.stmt.Target.{Target}
 use Rattle.v_syntax.specs.declared.stmt.Target.TheVariants as t
 use Rattle.v_syntax.specs.Rule.{Rule, ◌>>=◌, ◌>>◌, ◌<|>◌, yields, mark, word, ident}
-use Rattle.v_syntax.specs.Grammar.{placed}
+use Rattle.v_syntax.specs.Grammar.{inner_levels, placed}
 use Rattle.v_syntax.specs.StmtGrammar.{IsWhole, IsPlace, IsBraced, IsTarget}
 use Rattle.v_parser.specs.Reading.{Reader, word_code, among}
 use Rattle.v_parser.specs.Exprs.{identifiers, only}
@@ -22,10 +22,10 @@ use Rattle.v_parser.proofs.Primaries.{begins_mark, begins_ident, expr_goes, expr
 use Rattle.v_parser.proofs.Operands.{reads_expr, begins_expr, placed_expr, expr_placed}
 
 pub reads_whole : Reads IsWhole expr_goes 1 whole_at
-reads_whole = reads_expr 199
+reads_whole = reads_expr inner_levels
 
 pub begins_whole : Begins IsWhole expr_kinds
-begins_whole = begins_expr 199
+begins_whole = begins_expr inner_levels
 
 pub begins_word : (x : Keyword) → Begins (word x) (word_code x ∷ [])
 begins_word x = record { first = λ before after at h. word_here x before after at h }
@@ -71,17 +71,17 @@ abbrev pub target_goes : ℕ → Bool
 target_goes x = among x (2 ∷ [])
 
 place_to : (before after : List Token) (x : Target) → PlaceForm before after x → IsPlace before after x
-place_to before after x (m, name, hi, inr rest) = inl (inl (m, name, hi, rest))
+place_to before after x (m, name, hi, inr rest) = inl (m, name, hi, rest)
 place_to before after x (m, name, hi, inl (m2, bracket, hb, (m3, first, hp, inl (m4, c, hc, (m5, lsb, hl, (m6, d, hd, (ends, is))))))) =
-    inr (m, name, hi, (after, record { bracket = bracket; msb = first; lsb = lsb }, (m2, bracket, hb, (m3, first, hp, (m4, c, hc, (m5, lsb, hl, (m6, d, hd, (ends, refl)))))), (refl, is)))
+    inr (inr (m, name, hi, (after, record { bracket = bracket; msb = first; lsb = lsb }, (m2, bracket, hb, (m3, first, hp, (m4, c, hc, (m5, lsb, hl, (m6, d, hd, (ends, refl)))))), (refl, is))))
 place_to before after x (m, name, hi, inl (m2, bracket, hb, (m3, first, hp, inr (m4, c, hc, rest)))) =
-    inl (inr (m, name, hi, (m2, bracket, hb, (m3, first.expr, placed_expr m2 m3 first hp, (m4, c, hc, rest)))))
+    inr (inl (m, name, hi, (m2, bracket, hb, (m3, first.expr, placed_expr m2 m3 first hp, (m4, c, hc, rest)))))
 
 place_from : (before after : List Token) (x : Target) → IsPlace before after x → PlaceForm before after x
-place_from before after x (inl (inl (m, name, hi, rest))) = (m, name, hi, inr rest)
-place_from before after x (inl (inr (m, name, hi, (m2, bracket, hb, (m3, index, he, rest))))) =
+place_from before after x (inl (m, name, hi, rest)) = (m, name, hi, inr rest)
+place_from before after x (inr (inl (m, name, hi, (m2, bracket, hb, (m3, index, he, rest))))) =
     let p = expr_placed begins_whole m2 m3 index he in (m, name, hi, inl (m2, bracket, hb, (m3, record { at = p.0; expr = index }, p.1, inr rest)))
-place_from before after x (inr (m, name, hi, (n, range, (m2, bracket, hb, (m3, msb, hp, (m4, c, hc, (m5, lsb, hl, (m6, d, hd, (ends, isr)))))), (ends2, is)))) =
+place_from before after x (inr (inr (m, name, hi, (n, range, (m2, bracket, hb, (m3, msb, hp, (m4, c, hc, (m5, lsb, hl, (m6, d, hd, (ends, isr)))))), (ends2, is))))) =
     (m, name, hi, inl (m2, bracket, hb, (m3, msb, hp, inl (m4, c, hc, (m5, lsb, hl, (m6, d, hd, (ends ∙ ends2, is ∙ ap (λ (y : Range). t.Part name y) isr)))))))
 
 reads_place : Reads IsPlace target_goes 1 place_at
@@ -95,7 +95,7 @@ reads_place = reads_same
     place_to place_from
 
 begins_place : Begins IsPlace identifiers
-begins_place = begins_or (begins_or (begins_bind begins_ident) (begins_bind begins_ident)) (begins_bind begins_ident)
+begins_place = begins_or (begins_bind begins_ident) (begins_or (begins_bind begins_ident) (begins_bind begins_ident))
 
 reads_braced : {target : Rule Target} {f : Reader Target} → Reads target target_goes 1 f → Reads (IsBraced target) none 1 (braced_at f)
 unfolding braced_at
@@ -104,19 +104,13 @@ reads_braced p =
     reads_bind (reads_listed target_goes refl p) (λ parts. reads_then (reads_mark none m.CloseBrace) λ _. reads_yields none (t.Concat brace parts))
     (opens (list_goes target_goes) (5 ∷ []) refl (λ parts. begins_bind (begins_mark m.CloseBrace)))
 
-swap : {A : Type 0} (P Q : Rule A) (before after : List Token) (x : A) → (Q <|> P) before after x → (P <|> Q) before after x
-swap P Q before after x (inl h) = inr h
-swap P Q before after x (inr h) = inl h
-
 pub reads_target : (levels : ℕ) → Reads (IsTarget levels) target_goes 1 (target_at levels)
 unfolding IsTarget target_at
 reads_target zero = reads_place
-reads_target (suc levels) = reads_same
-    (reads_choose 1 (only m.OpenBrace) (reads_closed target_goes (reads_braced (reads_target levels))) reads_place (omega arith) (omega arith)
-    (begins_bind (begins_mark m.OpenBrace)) (others (only m.OpenBrace) identifiers refl begins_place))
-    (swap IsPlace (IsBraced (IsTarget levels))) (swap (IsBraced (IsTarget levels)) IsPlace)
+reads_target (suc levels) = reads_choose 1 (only m.OpenBrace) (reads_closed target_goes (reads_braced (reads_target levels))) reads_place (omega arith) (omega arith)
+    (begins_bind (begins_mark m.OpenBrace)) (others (only m.OpenBrace) identifiers refl begins_place)
 
 pub begins_target : (levels : ℕ) → Begins (IsTarget levels) (60 ∷ 4 ∷ [])
 unfolding IsTarget
 begins_target zero = begins_among identifiers (60 ∷ 4 ∷ []) refl begins_place
-begins_target (suc levels) = begins_or (begins_among identifiers (60 ∷ 4 ∷ []) refl begins_place) (begins_among (4 ∷ []) (60 ∷ 4 ∷ []) refl (begins_bind (begins_mark m.OpenBrace)))
+begins_target (suc levels) = begins_or (begins_among (4 ∷ []) (60 ∷ 4 ∷ []) refl (begins_bind (begins_mark m.OpenBrace))) (begins_among identifiers (60 ∷ 4 ∷ []) refl begins_place)

@@ -181,13 +181,17 @@ group_at expr = do
 unfoldable pub concat_at : Reader Expr → ℕ → Expr → Reader Expr
 concat_at expr brace first = more_at expr (first ∷ []) >>= λ parts. mark_at m.CloseBrace >> gives (e.Concat brace parts)
 
-unfoldable pub replicate_at : Reader Expr → ℕ → Placed → Reader Expr
-replicate_at expr brace count = do
+-- the inner brace and the parts of a replication, up to its end
+unfoldable pub inner_parts_at : Reader Expr → Reader (ℕ × List Expr)
+inner_parts_at expr = do
   inner ← mark_at m.OpenBrace
   parts ← listed_at expr
   mark_at m.CloseBrace
   mark_at m.CloseBrace
-  gives (e.Replicate brace count.at count.expr inner parts)
+  gives (inner, parts)
+
+unfoldable pub replicate_at : Reader Expr → ℕ → Placed → Reader Expr
+replicate_at expr brace count = inner_parts_at expr >>= λ inner. gives (e.Replicate brace count.at count.expr inner.0 inner.1)
 
 unfoldable pub braces_at : Reader Expr → Reader Expr
 braces_at expr = do

@@ -15,9 +15,12 @@ use Rattle.v_syntax.specs.declared.module.ParameterGroup.{ParameterGroup}
 use Rattle.v_syntax.specs.declared.module.PortGroup.{PortGroup}
 use Rattle.v_syntax.specs.declared.module.PortKind.{PortKind}
 use Rattle.v_syntax.specs.declared.module.PortKind.TheVariants as p
+use Rattle.v_syntax.specs.declared.module.Event.{Event}
+use Rattle.v_syntax.specs.declared.module.Event.TheVariants as events
 use Rattle.v_syntax.specs.declared.module.Item.{Item}
 use Rattle.v_syntax.specs.declared.module.Item.TheVariants as i
 use Rattle.v_syntax.specs.declared.module.Module.{Module}
+use Rattle.v_syntax.specs.Grammar.{inner_levels}
 use Rattle.v_parser.specs.Reading.{Reader, ◌>>=◌, ◌>>◌, gives, choose, word_code, repeated, among, next_in, listed_at, mark_at, word_at, ident_at}
 use Rattle.v_parser.specs.Exprs.{identifiers, only, placed_at, range_at}
 use Rattle.v_parser.specs.Stmts.{whole_at, stmt_at}
@@ -177,15 +180,32 @@ assign_item_at = do
   mark_at m.Semicolon
   gives (i.Assigns settings)
 
+unfoldable pub any_event_at : Reader Event
+any_event_at = mark_at m.Star >> gives events.Any
+
+unfoldable pub posedge_at : Reader Event
+posedge_at = word_at k.Posedge >> (ident_at >>= λ name. gives (events.Posedge name))
+
+-- what stands in the parentheses
+unfoldable pub inner_event_at : Reader Event
+inner_event_at = choose (only m.Star) any_event_at posedge_at
+
+unfoldable pub event_group_at : Reader Event
+event_group_at = do
+  mark_at m.OpenParen
+  event ← inner_event_at
+  mark_at m.CloseParen
+  gives event
+
+unfoldable pub event_at : Reader Event
+event_at = choose (only m.Star) any_event_at event_group_at
+
 unfoldable pub always_item_at : Reader Item
 always_item_at = do
   word_at k.Always
   mark_at m.At
-  mark_at m.OpenParen
-  word_at k.Posedge
-  event ← ident_at
-  mark_at m.CloseParen
-  body ← stmt_at 199
+  event ← event_at
+  body ← stmt_at inner_levels
   gives (i.Always event body)
 
 unfoldable pub item_at : Reader Item

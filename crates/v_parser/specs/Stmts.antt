@@ -16,11 +16,12 @@ use Rattle.v_syntax.specs.declared.stmt.Label.TheVariants as l
 use Rattle.v_syntax.specs.declared.stmt.Arm.{Arm}
 use Rattle.v_syntax.specs.declared.stmt.Stmt.{Stmt}
 use Rattle.v_syntax.specs.declared.stmt.Stmt.TheVariants as s
+use Rattle.v_syntax.specs.Grammar.{inner_levels}
 use Rattle.v_parser.specs.Reading.{Reader, ◌>>=◌, ◌>>◌, gives, choose, repeated, listed_at, mark_at, word_at, ident_at}
 use Rattle.v_parser.specs.Exprs.{only, placed_at, expr_at}
 
 abbrev pub whole_at : Reader Expr
-whole_at = expr_at 199
+whole_at = expr_at inner_levels
 
 -- what stands behind the first bound of a part
 unfoldable pub target_part_at : Ident → ℕ → Placed → Reader Target
@@ -61,7 +62,7 @@ assigned_at target kind = do
 
 unfoldable pub assign_at : Reader Stmt
 assign_at = do
-  target ← target_at 199
+  target ← target_at inner_levels
   kind ← assign_kind_at
   assigned_at target kind
 
@@ -137,12 +138,15 @@ arm_at stmt = do
 unfoldable pub arms_of_at : Reader Stmt → Reader (List Arm)
 arms_of_at stmt = arm_at stmt >>= λ first. repeated not_endcase (arm_at stmt) (first ∷ [])
 
+-- the arms of a case, up to its end
+unfoldable pub case_body_at : Reader Stmt → Reader (List Arm)
+case_body_at stmt = arms_of_at stmt >>= λ arms. word_at k.Endcase >> gives arms
+
 unfoldable pub case_at : Reader Stmt → Reader Stmt
 case_at stmt = do
   kind ← case_kind_at
   subject ← condition_at
-  arms ← arms_of_at stmt
-  word_at k.Endcase
+  arms ← case_body_at stmt
   gives (s.Case kind subject arms)
 
 unfoldable pub after_else_at : Reader Stmt → Reader Stmt

@@ -8,7 +8,7 @@ use crate::miss::{Miss, Read};
 use crate::tokens::{ident, mark, next_is, next_word, word};
 use lz_base::Items;
 use std::alloc::Global;
-use v_syntax::{Declared, Keyword, Mark, Placed, Range, Setting, Token, Variable};
+use v_syntax::{Declared, INNER_LEVELS, Keyword, Mark, Placed, Range, Setting, Token, Variable};
 
 // Whether this word stands there.
 #[tactic(auto, unfolding(crate::specs::Modules::flag_at))]
@@ -30,7 +30,7 @@ pub(crate) fn range_option<'t>(alloc: Global, tokens: &'t [Token]) -> Read<'t, O
     ensures shorter { IfOk result (λ x. length x.1.now ≤ length tokens.now) }
 {
     if next_is(tokens, Mark::OpenBracket) {
-        let (range, rest) = range(alloc, tokens, 199)?;
+        let (range, rest) = range(alloc, tokens, INNER_LEVELS)?;
         Ok((Some(range), rest))
     } else {
         Ok((None, tokens))
@@ -43,7 +43,7 @@ fn value<'t>(alloc: Global, tokens: &'t [Token]) -> Read<'t, Placed>
     ensures shorter { IfOk result (λ x. length x.1.now < length tokens.now) }
 {
     let (_, rest) = mark(tokens, Mark::Equal)?;
-    placed(alloc, rest, 199)
+    placed(alloc, rest, INNER_LEVELS)
 }
 
 #[tactic(auto, unfolding(crate::specs::Modules::value_option_at))]
@@ -95,7 +95,7 @@ fn variable<'t>(alloc: Global, tokens: &'t [Token]) -> Read<'t, Variable>
 {
     let (name, rest) = ident(alloc, tokens)?;
     if next_is(rest, Mark::OpenBracket) {
-        let (range, rest) = range(alloc, rest, 199)?;
+        let (range, rest) = range(alloc, rest, INNER_LEVELS)?;
         Ok((Variable::Memory(name, range), rest))
     } else {
         let (value, rest) = value_option(alloc, rest)?;

@@ -1,6 +1,6 @@
 ghost use Rattle.std.specs.Prelude.{◌≡◌, ◌≤◌, ◌<◌, ◌-◌, [], ◌∷◌, Ok, Err, IfOk, length};
 ghost use Rattle.v_parser.specs.Reading.{more_at, listed_at, repeated};
-ghost use Rattle.v_parser.specs.Exprs.{number_at, range_at, placed_at, operand_at, expr_at, operand_over_at, name_at, index_at, part_at, other_arm_at, group_at, braces_at, concat_at, replicate_at, signed_at, prefixed_at, leaf_at, binary_at, link_at, arms_at, has_rank};
+ghost use Rattle.v_parser.specs.Exprs.{number_at, range_at, placed_at, operand_at, expr_at, operand_over_at, name_at, index_at, part_at, other_arm_at, group_at, braces_at, concat_at, inner_parts_at, replicate_at, signed_at, prefixed_at, leaf_at, binary_at, link_at, arms_at, has_rank};
 ghost use Rattle.v_syntax.specs.Grammar.{chain};
 ghost use Rattle.v_parser.specs.Gives.{Gives};
 
@@ -225,6 +225,21 @@ pub(crate) fn more_exprs<'t>(
     Ok((parts, left))
 }
 
+// The inner brace and the parts of a replication, up to its end.
+#[cycle(parser)]
+#[tactic(auto, unfolding(crate::specs::Exprs::inner_parts_at))]
+fn inner_parts<'t>(alloc: Global, tokens: &'t [Token], depth: u32) -> Read<'t, (u64, Items<Expr>)>
+    ensures gives { Gives (λ x. (x.0, x.1.now)) result (inner_parts_at (expr_at depth) tokens.now) }
+    ensures shorter { IfOk result (λ x. length x.1.now < length tokens.now) }
+{
+    let (inner_brace, rest) = mark(tokens, Mark::OpenBrace)?;
+    let (first, rest) = expr(alloc, rest, depth)?;
+    let (parts, rest) = more_exprs(alloc, rest, depth, first)?;
+    let (_, rest) = mark(rest, Mark::CloseBrace)?;
+    let (_, rest) = mark(rest, Mark::CloseBrace)?;
+    Ok(((inner_brace, parts), rest))
+}
+
 #[cycle(parser)]
 #[tactic(auto, unfolding(crate::specs::Exprs::replicate_at))]
 fn replicate<'t>(
@@ -237,11 +252,8 @@ fn replicate<'t>(
     ensures gives { Gives (λ x. (x.0, x.1.now)) result (replicate_at (expr_at depth) brace count tokens.now) }
     ensures shorter { IfOk result (λ x. length x.1.now < length tokens.now) }
 {
-    let (inner_brace, rest) = mark(tokens, Mark::OpenBrace)?;
-    let (first, rest) = expr(alloc, rest, depth)?;
-    let (parts, rest) = more_exprs(alloc, rest, depth, first)?;
-    let (_, rest) = mark(rest, Mark::CloseBrace)?;
-    let (_, rest) = mark(rest, Mark::CloseBrace)?;
+    let (inner, rest) = inner_parts(alloc, tokens, depth)?;
+    let (inner_brace, parts) = inner;
     Ok((replicate_of(alloc, brace, count, inner_brace, parts)?, rest))
 }
 

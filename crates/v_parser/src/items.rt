@@ -1,13 +1,13 @@
 ghost use Rattle.std.specs.Prelude.{◌≡◌, ◌≤◌, ◌<◌, [], ◌∷◌, Ok, Err, IfOk, length};
-ghost use Rattle.v_parser.specs.Modules.{settings_at, parameter_item_at, local_parameter_item_at, wire_item_at, reg_item_at, assign_item_at, always_item_at, item_at};
+ghost use Rattle.v_parser.specs.Modules.{settings_at, parameter_item_at, local_parameter_item_at, wire_item_at, reg_item_at, assign_item_at, any_event_at, posedge_at, inner_event_at, event_group_at, event_at, always_item_at, item_at};
 ghost use Rattle.v_parser.specs.Gives.{Gives};
 
 use crate::declarations::{declared_list, flag, range_option, settings_list, variable_list};
 use crate::miss::{Miss, Read};
 use crate::stmts::stmt;
-use crate::tokens::{ident, mark, next_word, word};
+use crate::tokens::{ident, mark, next_is, next_word, word};
 use std::alloc::Global;
-use v_syntax::{Item, Keyword, Mark, ParameterGroup, Token};
+use v_syntax::{Event, INNER_LEVELS, Item, Keyword, Mark, ParameterGroup, Token};
 
 #[tactic(auto, unfolding(crate::specs::Modules::settings_at))]
 fn settings<'t>(alloc: Global, tokens: &'t [Token]) -> Read<'t, ParameterGroup>
@@ -100,6 +100,61 @@ fn assign_item<'t>(alloc: Global, tokens: &'t [Token]) -> Read<'t, Item>
     Ok((Item::Assigns(settings), rest))
 }
 
+#[tactic(auto, unfolding(crate::specs::Modules::any_event_at))]
+fn any_event(tokens: &[Token]) -> Read<'_, Event>
+    ensures gives { Gives (λ x. (x.0, x.1.now)) result (any_event_at tokens.now) }
+    ensures shorter { IfOk result (λ x. length x.1.now < length tokens.now) }
+{
+    let (_, rest) = mark(tokens, Mark::Star)?;
+    Ok((Event::Any, rest))
+}
+
+#[tactic(auto, unfolding(crate::specs::Modules::posedge_at))]
+fn posedge<'t>(alloc: Global, tokens: &'t [Token]) -> Read<'t, Event>
+    ensures gives { Gives (λ x. (x.0, x.1.now)) result (posedge_at tokens.now) }
+    ensures shorter { IfOk result (λ x. length x.1.now < length tokens.now) }
+{
+    let (_, rest) = word(tokens, Keyword::Posedge)?;
+    let (name, rest) = ident(alloc, rest)?;
+    Ok((Event::Posedge(name), rest))
+}
+
+// What stands in the parentheses of an event.
+#[tactic(auto, unfolding(crate::specs::Modules::inner_event_at))]
+fn inner_event<'t>(alloc: Global, tokens: &'t [Token]) -> Read<'t, Event>
+    ensures gives { Gives (λ x. (x.0, x.1.now)) result (inner_event_at tokens.now) }
+    ensures shorter { IfOk result (λ x. length x.1.now < length tokens.now) }
+{
+    if next_is(tokens, Mark::Star) {
+        any_event(tokens)
+    } else {
+        posedge(alloc, tokens)
+    }
+}
+
+#[tactic(auto, unfolding(crate::specs::Modules::event_group_at))]
+fn event_group<'t>(alloc: Global, tokens: &'t [Token]) -> Read<'t, Event>
+    ensures gives { Gives (λ x. (x.0, x.1.now)) result (event_group_at tokens.now) }
+    ensures shorter { IfOk result (λ x. length x.1.now < length tokens.now) }
+{
+    let (_, rest) = mark(tokens, Mark::OpenParen)?;
+    let (event, rest) = inner_event(alloc, rest)?;
+    let (_, rest) = mark(rest, Mark::CloseParen)?;
+    Ok((event, rest))
+}
+
+#[tactic(auto, unfolding(crate::specs::Modules::event_at))]
+fn event<'t>(alloc: Global, tokens: &'t [Token]) -> Read<'t, Event>
+    ensures gives { Gives (λ x. (x.0, x.1.now)) result (event_at tokens.now) }
+    ensures shorter { IfOk result (λ x. length x.1.now < length tokens.now) }
+{
+    if next_is(tokens, Mark::Star) {
+        any_event(tokens)
+    } else {
+        event_group(alloc, tokens)
+    }
+}
+
 #[tactic(auto, unfolding(crate::specs::Modules::always_item_at))]
 fn always_item<'t>(alloc: Global, tokens: &'t [Token]) -> Read<'t, Item>
     ensures gives { Gives (λ x. (x.0, x.1.now)) result (always_item_at tokens.now) }
@@ -107,11 +162,8 @@ fn always_item<'t>(alloc: Global, tokens: &'t [Token]) -> Read<'t, Item>
 {
     let (_, rest) = word(tokens, Keyword::Always)?;
     let (_, rest) = mark(rest, Mark::At)?;
-    let (_, rest) = mark(rest, Mark::OpenParen)?;
-    let (_, rest) = word(rest, Keyword::Posedge)?;
-    let (event, rest) = ident(alloc, rest)?;
-    let (_, rest) = mark(rest, Mark::CloseParen)?;
-    let (body, rest) = stmt(alloc, rest, 199)?;
+    let (event, rest) = event(alloc, rest)?;
+    let (body, rest) = stmt(alloc, rest, INNER_LEVELS)?;
     Ok((Item::Always { event, body }, rest))
 }
 

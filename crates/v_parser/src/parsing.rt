@@ -1,9 +1,10 @@
 ghost use Rattle.std.specs.Prelude.{◌≡◌, List, IfOk};
+ghost use Rattle.lz_base.specs.Answers.{Answers, IfFault};
 ghost use Rattle.lz_base.specs.declared.rule.Rule.TheVariants.{E3};
 ghost use Rattle.v_syntax.specs.ModuleGrammar.{Derives};
 ghost use Rattle.v_syntax.specs.declared.module.Module.{Module};
 ghost use Rattle.v_syntax.specs.declared.token.Token.{Token};
-ghost use Rattle.v_parser.specs.Refusal.{IsRefused, IfFault, Reads, place_of};
+ghost use Rattle.v_parser.specs.Refusal.{IsRefused, first_place};
 
 use crate::miss::Miss;
 use crate::modules::module;
@@ -13,7 +14,7 @@ use v_syntax::{Module, Token, Tokens};
 
 // The fault at the first of these tokens, or at the file's end.
 fn fault_at(tokens: &[Token], end: u64) -> Fault
-    ensures { result ≡ record { rule = E3; at = place_of tokens.now end } }
+    ensures { result ≡ record { rule = E3; at = first_place tokens.now end } }
 {
     match tokens.split_first() {
         Some((first, _)) => Fault {
@@ -27,12 +28,11 @@ fn fault_at(tokens: &[Token], end: u64) -> Fault
     }
 }
 
-// The module of these tokens, in a file that ends at the byte `end`. Where they are no module the answer is E3 at the
-// first token with which no text can go on; the end of the file counts as a token.
-#[tactic(auto, using(crate::proofs::ModuleRules::read_derives, crate::proofs::ModuleRules::read_only, crate::proofs::ModuleRules::stopped_refused, crate::proofs::ModuleRules::behind_refused))]
+// The module of these tokens, in a file that ends at the byte `end`, or E3.
+#[tactic(auto, using(crate::proofs::ModuleRules::stopped_refused))]
 pub(crate) fn parse_tokens(alloc: Global, tokens: &[Token], end: u64) -> Result<Module, Stop>
     ensures found { IfOk result (Derives tokens.now) }
-    ensures only { (m : Module) → Derives tokens.now m → Reads result m }
+    ensures only { (m : Module) → Derives tokens.now m → Answers (λ x. x) result m }
     ensures refused { IfFault result (IsRefused tokens.now end) }
 {
     match module(alloc, tokens) {
@@ -53,11 +53,12 @@ pub fn one_module()
     ensures { (tokens : List Token) (a b : Module) → Derives tokens a → Derives tokens b → a ≡ b }
 {}
 
-/// The module of the tokens. Where they are no module the answer is E3, at the first token with which no text can go on; the end
-/// of the file counts as a token.
+/// The module that the tokens derive. Where they derive none, the answer is E3 at the place of a token: those before it
+/// and it begin no module's tokens, whatever stands behind them. The file's end counts as a token. Want of memory may
+/// come at any file.
 pub fn parse(alloc: Global, tokens: &Tokens) -> Result<Module, Stop>
     ensures found { IfOk result (Derives tokens.now.tokens) }
-    ensures only { (m : Module) → Derives tokens.now.tokens m → Reads result m }
+    ensures only { (m : Module) → Derives tokens.now.tokens m → Answers (λ x. x) result m }
     ensures refused { IfFault result (IsRefused tokens.now.tokens tokens.now.end) }
 {
     parse_tokens(alloc, tokens.tokens(), tokens.end())

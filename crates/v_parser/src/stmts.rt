@@ -1,6 +1,6 @@
 ghost use Rattle.std.specs.Prelude.{◌≡◌, ◌≤◌, ◌<◌, [], ◌∷◌, Ok, Err, IfOk, length};
 ghost use Rattle.v_parser.specs.Reading.{more_at, repeated};
-ghost use Rattle.v_parser.specs.Stmts.{whole_at, assign_kind_at, assigned_at, assign_at, null_at, empty_block_at, block_at, condition_at, case_kind_at, items_at, default_at, label_at, arm_at, arms_of_at, case_at, after_else_at, else_at, branches_at, if_at, flat_at, simple_at, stmt_at, not_end, not_endcase};
+ghost use Rattle.v_parser.specs.Stmts.{whole_at, assign_kind_at, assigned_at, assign_at, null_at, empty_block_at, block_at, condition_at, case_kind_at, items_at, default_at, label_at, arm_at, arms_of_at, case_body_at, case_at, after_else_at, else_at, branches_at, if_at, flat_at, simple_at, stmt_at, not_end, not_endcase};
 ghost use Rattle.v_parser.specs.Gives.{Gives};
 
 use crate::exprs::{expr, more_exprs};
@@ -9,7 +9,9 @@ use crate::targets::target;
 use crate::tokens::{mark, next_is, next_is_case, next_is_not, next_word, word};
 use lz_base::{Boxed, Items};
 use std::alloc::Global;
-use v_syntax::{Arm, AssignKind, CaseKind, Expr, Keyword, Label, Mark, Stmt, Target, Token};
+use v_syntax::{
+    Arm, AssignKind, CaseKind, Expr, INNER_LEVELS, Keyword, Label, Mark, Stmt, Target, Token,
+};
 
 #[tactic(auto, unfolding(crate::specs::Stmts::assign_kind_at))]
 fn assign_kind(tokens: &[Token]) -> Read<'_, AssignKind>
@@ -36,7 +38,7 @@ fn assigned<'t>(
     ensures gives { Gives (λ x. (x.0, x.1.now)) result (assigned_at target kind tokens.now) }
     ensures shorter { IfOk result (λ x. length x.1.now < length tokens.now) }
 {
-    let (value, rest) = expr(alloc, tokens, 199)?;
+    let (value, rest) = expr(alloc, tokens, INNER_LEVELS)?;
     let assign = Stmt::Assign {
         target,
         kind,
@@ -51,7 +53,7 @@ fn assign<'t>(alloc: Global, tokens: &'t [Token]) -> Read<'t, Stmt>
     ensures gives { Gives (λ x. (x.0, x.1.now)) result (assign_at tokens.now) }
     ensures shorter { IfOk result (λ x. length x.1.now < length tokens.now) }
 {
-    let (target, rest) = target(alloc, tokens, 199)?;
+    let (target, rest) = target(alloc, tokens, INNER_LEVELS)?;
     let target = Boxed::new(alloc, target)?;
     let (kind, rest) = assign_kind(rest)?;
     assigned(alloc, rest, target, kind)
@@ -82,7 +84,7 @@ fn condition<'t>(alloc: Global, tokens: &'t [Token]) -> Read<'t, Expr>
     ensures shorter { IfOk result (λ x. length x.1.now < length tokens.now) }
 {
     let (_, rest) = mark(tokens, Mark::OpenParen)?;
-    let (inner, rest) = expr(alloc, rest, 199)?;
+    let (inner, rest) = expr(alloc, rest, INNER_LEVELS)?;
     let (_, rest) = mark(rest, Mark::CloseParen)?;
     Ok((inner, rest))
 }
@@ -106,8 +108,8 @@ fn items<'t>(alloc: Global, tokens: &'t [Token]) -> Read<'t, Label>
     ensures gives { Gives (λ x. (x.0, x.1.now)) result (items_at tokens.now) }
     ensures shorter { IfOk result (λ x. length x.1.now < length tokens.now) }
 {
-    let (first, rest) = expr(alloc, tokens, 199)?;
-    let (items, rest) = more_exprs(alloc, rest, 199, first)?;
+    let (first, rest) = expr(alloc, tokens, INNER_LEVELS)?;
+    let (items, rest) = more_exprs(alloc, rest, INNER_LEVELS, first)?;
     let (_, rest) = mark(rest, Mark::Colon)?;
     Ok((Label::Items(items), rest))
 }
@@ -213,6 +215,18 @@ fn arms_of<'t>(alloc: Global, tokens: &'t [Token], depth: u32) -> Read<'t, Items
     more_arms(alloc, rest, depth, first)
 }
 
+// The arms of a case, up to its end.
+#[cycle(statements)]
+#[tactic(auto, unfolding(crate::specs::Stmts::case_body_at))]
+fn case_body<'t>(alloc: Global, tokens: &'t [Token], depth: u32) -> Read<'t, Items<Arm>>
+    ensures gives { Gives (λ x. (x.0, x.1.now)) result (case_body_at (stmt_at depth) tokens.now) }
+    ensures shorter { IfOk result (λ x. length x.1.now < length tokens.now) }
+{
+    let (arms, rest) = arms_of(alloc, tokens, depth)?;
+    let (_, rest) = word(rest, Keyword::Endcase)?;
+    Ok((arms, rest))
+}
+
 #[cycle(statements)]
 #[tactic(auto, unfolding(crate::specs::Stmts::case_at))]
 fn case<'t>(alloc: Global, tokens: &'t [Token], depth: u32) -> Read<'t, Stmt>
@@ -221,14 +235,15 @@ fn case<'t>(alloc: Global, tokens: &'t [Token], depth: u32) -> Read<'t, Stmt>
 {
     let (kind, rest) = case_kind(tokens)?;
     let (subject, rest) = condition(alloc, rest)?;
-    let (arms, rest) = arms_of(alloc, rest, depth)?;
-    let case = Stmt::Case {
-        kind,
-        subject,
-        arms,
-    };
-    let (_, rest) = word(rest, Keyword::Endcase)?;
-    Ok((case, rest))
+    let (arms, rest) = case_body(alloc, rest, depth)?;
+    Ok((
+        Stmt::Case {
+            kind,
+            subject,
+            arms,
+        },
+        rest,
+    ))
 }
 
 #[cycle(statements)]

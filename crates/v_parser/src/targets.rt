@@ -8,7 +8,7 @@ use crate::miss::{Miss, Read};
 use crate::tokens::{ident, mark, next_is};
 use lz_base::Items;
 use std::alloc::Global;
-use v_syntax::{Ident, Mark, Placed, Range, Target, Token};
+use v_syntax::{INNER_LEVELS, Ident, Mark, Placed, Range, Target, Token};
 
 #[tactic(auto, unfolding(crate::specs::Stmts::target_part_at))]
 fn target_part<'t>(
@@ -22,7 +22,7 @@ fn target_part<'t>(
     ensures shorter { IfOk result (λ x. length x.1.now < length tokens.now) }
 {
     let (_, rest) = mark(tokens, Mark::Colon)?;
-    let (lsb, rest) = placed(alloc, rest, 199)?;
+    let (lsb, rest) = placed(alloc, rest, INNER_LEVELS)?;
     let (_, rest) = mark(rest, Mark::CloseBracket)?;
     let range = Range { bracket, msb, lsb };
     Ok((Target::Part { name, range }, rest))
@@ -34,7 +34,7 @@ fn target_index<'t>(alloc: Global, tokens: &'t [Token], name: Ident) -> Read<'t,
     ensures shorter { IfOk result (λ x. length x.1.now < length tokens.now) }
 {
     let (bracket, rest) = mark(tokens, Mark::OpenBracket)?;
-    let (first, rest) = placed(alloc, rest, 199)?;
+    let (first, rest) = placed(alloc, rest, INNER_LEVELS)?;
     if next_is(rest, Mark::Colon) {
         target_part(alloc, rest, name, bracket, first)
     } else {

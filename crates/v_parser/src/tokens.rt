@@ -7,9 +7,11 @@ ghost use Rattle.v_parser.specs.Gives.{Gives};
 
 use crate::miss::Miss;
 use crate::operators::{binary_operator, rank, unary_operator};
-use lz_base::{Items, Name};
+use lz_base::Name;
 use std::alloc::Global;
-use v_syntax::{BinaryOperator, Cast, Ident, Keyword, Lexeme, Mark, Token, UnaryOperator};
+use v_syntax::{
+    Based, BinaryOperator, Cast, Decimal, Ident, Keyword, Lexeme, Mark, Token, UnaryOperator,
+};
 
 // Whether the next token is this mark.
 pub(crate) fn next_is(tokens: &[Token], wanted: Mark) -> bool
@@ -175,7 +177,7 @@ pub(crate) fn ident<'t>(
 pub(crate) fn decimal<'t>(
     alloc: Global,
     tokens: &'t [Token],
-) -> Result<(u64, Items<u8>, &'t [Token]), Miss<'t>>
+) -> Result<(u64, Decimal, &'t [Token]), Miss<'t>>
     ensures gives { Gives (λ x. ((x.0, x.1), x.2.now)) result (decimal_at tokens.now) }
     ensures shorter { IfOk result (λ x. length x.2.now < length tokens.now) }
 {
@@ -183,7 +185,7 @@ pub(crate) fn decimal<'t>(
         return Err(Miss::At(tokens));
     };
     match &first.lexeme {
-        Lexeme::Decimal(bytes) => Ok((first.at, Items::from_slice(alloc, bytes.as_slice())?, rest)),
+        Lexeme::Decimal(number) => Ok((first.at, Decimal::new(alloc, number.bytes())?, rest)),
         _ => Err(Miss::At(tokens)),
     }
 }
@@ -192,7 +194,7 @@ pub(crate) fn decimal<'t>(
 pub(crate) fn based<'t>(
     alloc: Global,
     tokens: &'t [Token],
-) -> Result<(u64, Items<u8>, &'t [Token]), Miss<'t>>
+) -> Result<(u64, Based, &'t [Token]), Miss<'t>>
     ensures gives { Gives (λ x. ((x.0, x.1), x.2.now)) result (based_at tokens.now) }
     ensures shorter { IfOk result (λ x. length x.2.now < length tokens.now) }
 {
@@ -200,7 +202,7 @@ pub(crate) fn based<'t>(
         return Err(Miss::At(tokens));
     };
     match &first.lexeme {
-        Lexeme::Based(bytes) => Ok((first.at, Items::from_slice(alloc, bytes.as_slice())?, rest)),
+        Lexeme::Based(number) => Ok((first.at, Based::new(alloc, number.bytes())?, rest)),
         _ => Err(Miss::At(tokens)),
     }
 }

@@ -3,7 +3,8 @@ use Rattle.std.proofs.Common.{◌≡◌, ◌+◌, ◌<◌, ℕ, suc, List, [], �
 use Rattle.std.proofs.lemmas.List.{map_push, take_more, take-append-drop}
 use Rattle.v_syntax.specs.declared.small.SmallPort.{SmallPort}
 use Rattle.v_syntax.specs.declared.small.SmallPort.TheVariants.{Input, Register}
-use Rattle.v_syntax.specs.Small.{IsAmong, port_names, register_names}
+use Rattle.lz_base.specs.Names.{IsAmong}
+use Rattle.v_syntax.specs.Small.{port_names, register_names}
 
 -- names of ports, one after the other
 abbrev pub IsInOrder : (List SmallPort → List (List ℕ)) → Type 0

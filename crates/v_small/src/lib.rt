@@ -10,7 +10,6 @@ mod parts;
 mod reading;
 mod taking;
 
-pub use distinct::is_distinct;
 pub use reading::{one_module, read};
 
 #[cfg(test)]

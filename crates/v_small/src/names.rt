@@ -1,6 +1,6 @@
 ghost use Rattle.std.specs.Prelude.{◌≡◌, [], ◌∷◌, IfOk, IsTrue, ◌↔◌};
-ghost use Rattle.lz_base.specs.Names.{AreDistinct};
-ghost use Rattle.v_syntax.specs.Small.{IsAmong, AreAmong, HasNames, port_names, register_names, read_names};
+ghost use Rattle.lz_base.specs.Names.{AreDistinct, IsAmong, AreAmong};
+ghost use Rattle.v_syntax.specs.Small.{HasNames, port_names, register_names, read_names};
 
 use crate::distinct::is_distinct;
 use lz_base::OutOfMemory;

@@ -1,6 +1,5 @@
 -- The grammar of expressions. From IEEE Std 1364-2005, annex A.8.
-use Rattle.std.specs.Prelude.{◌≡◌, ◌⊎◌, ℕ, zero, suc, List, [], ◌∷◌, Option, None, Some}
-use Rattle.v_syntax.specs.declared.token.Token.{Token}
+use Rattle.std.specs.Prelude.{◌≡◌, ℕ, zero, suc, List, [], ◌∷◌, Option, None, Some}
 use Rattle.v_syntax.specs.declared.token.Cast.{Cast}
 use Rattle.v_syntax.specs.declared.token.Lexeme.TheVariants as l
 use Rattle.v_syntax.specs.declared.token.Mark.{Mark}
@@ -8,7 +7,6 @@ use Rattle.v_syntax.specs.declared.token.Mark.TheVariants as m
 use Rattle.v_syntax.specs.declared.expr.Expr.{Expr}
 use Rattle.v_syntax.specs.declared.expr.Expr.TheVariants as e
 use Rattle.v_syntax.specs.declared.expr.Number.{Number}
-use Rattle.v_syntax.specs.declared.expr.Spelling.{Spelling}
 use Rattle.v_syntax.specs.declared.expr.Spelling.TheVariants as s
 use Rattle.v_syntax.specs.declared.expr.Placed.{Placed}
 use Rattle.v_syntax.specs.declared.expr.Range.{Range}
@@ -99,12 +97,13 @@ abbrev pub between : ℕ → Rule BinaryOperator
 between rank before after op =
     (x : Mark) × (at : ℕ) × (before ≡ record { lexeme = l.Mark x; at = at } ∷ after) × (binary_of x ≡ Some op) × (rank_of op ≡ rank)
 
+-- [ BASED ], behind decimal digits and their place
+abbrev pub IsSized : ℕ × List ℕ → Rule Number
+IsSized d = (based >>= λ x. yields (record { at = d.0; spelling = s.Sized d.1 x.1 })) <|> yields (record { at = d.0; spelling = s.Decimal d.1 })
+
 -- DEC [ BASED ] | BASED
 abbrev pub IsNumber : Rule Number
-IsNumber =
-    (decimal >>= λ d. yields (record { at = d.0; spelling = s.Decimal d.1 }))
-    <|> (decimal >>= λ d. based >>= λ x. yields (record { at = d.0; spelling = s.Sized d.1 x.1 }))
-    <|> (based >>= λ x. yields (record { at = x.0; spelling = s.Based x.1 }))
+IsNumber = (decimal >>= λ d. IsSized d) <|> (based >>= λ x. yields (record { at = x.0; spelling = s.Based x.1 }))
 
 -- P and its first byte
 abbrev pub placed : Rule Expr → Rule Placed
@@ -120,9 +119,9 @@ IsRange expr = do
   mark m.CloseBracket
   yields (record { bracket = bracket; msb = msb; lsb = lsb })
 
--- a number or a name: what holds no expression
+-- a name or a number: what holds no expression
 abbrev pub IsLeaf : Rule Expr
-IsLeaf = (IsNumber >>= λ n. yields (e.Number n)) <|> (ident >>= λ name. yields (e.Name name))
+IsLeaf = (ident >>= λ name. yields (e.Name name)) <|> (IsNumber >>= λ n. yields (e.Number n))
 
 -- ID "[" expr "]"
 abbrev pub IsSelect : Rule Expr → Rule Expr
@@ -213,6 +212,11 @@ IsConditional condition arm = do
 
 abbrev pub IsExprOver : Rule Expr → Rule Expr → Rule Expr
 IsExprOver condition arm = condition <|> IsConditional condition arm
+
+-- how many levels of nesting stand below the first one at most: there are 200 levels of expressions, of statements and of
+-- braces in targets
+abbrev pub inner_levels : ℕ
+inner_levels = 199
 
 -- unary, and expr, that hold at most so many levels of nesting
 unfoldable pub nested : ℕ → Rule Expr × Rule Expr

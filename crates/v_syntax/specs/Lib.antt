@@ -1,6 +1,8 @@
-pub mod Small
+pub mod Numbers
 pub mod Tokens
+pub mod Small
 pub mod Rule
 pub mod Grammar
 pub mod StmtGrammar
 pub mod ModuleGrammar
+pub mod Source

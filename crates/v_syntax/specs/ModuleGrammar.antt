@@ -1,10 +1,10 @@
 -- The grammar of declarations and modules. From IEEE Std 1364-2005, annexes A.1 and A.2.
-use Rattle.std.specs.Prelude.{◌≡◌, ◌⊎◌, ℕ, zero, suc, Bool, true, false, List, [], ◌∷◌, ◌++◌, Option, None, Some}
+use Rattle.std.specs.Prelude.{false, List, [], None}
+use Rattle.v_syntax.specs.declared.token.Ident.{Ident}
 use Rattle.v_syntax.specs.declared.token.Token.{Token}
 use Rattle.v_syntax.specs.declared.token.Mark.TheVariants as m
 use Rattle.v_syntax.specs.declared.token.Keyword.TheVariants as k
 use Rattle.v_syntax.specs.declared.expr.Placed.{Placed}
-use Rattle.v_syntax.specs.declared.expr.Range.{Range}
 use Rattle.v_syntax.specs.declared.module.Setting.{Setting}
 use Rattle.v_syntax.specs.declared.module.Declared.{Declared}
 use Rattle.v_syntax.specs.declared.module.Variable.{Variable}
@@ -13,11 +13,13 @@ use Rattle.v_syntax.specs.declared.module.ParameterGroup.{ParameterGroup}
 use Rattle.v_syntax.specs.declared.module.PortGroup.{PortGroup}
 use Rattle.v_syntax.specs.declared.module.PortKind.{PortKind}
 use Rattle.v_syntax.specs.declared.module.PortKind.TheVariants as p
+use Rattle.v_syntax.specs.declared.module.Event.{Event}
+use Rattle.v_syntax.specs.declared.module.Event.TheVariants as events
 use Rattle.v_syntax.specs.declared.module.Item.{Item}
 use Rattle.v_syntax.specs.declared.module.Item.TheVariants as i
 use Rattle.v_syntax.specs.declared.module.Module.{Module}
-use Rattle.v_syntax.specs.Rule.{Rule, ◌>>=◌, ◌>>◌, ◌<|>◌, yields, mark, word, ident, optional, flag, many, listed}
-use Rattle.v_syntax.specs.Grammar.{placed, IsRange}
+use Rattle.v_syntax.specs.Rule.{Rule, ◌>>=◌, ◌>>◌, ◌<|>◌, yields, mark, word, ident, optional, flag, many, listed, DerivesBy, IsViableBy}
+use Rattle.v_syntax.specs.Grammar.{inner_levels, placed, IsRange}
 use Rattle.v_syntax.specs.StmtGrammar.{IsWhole, IsStmt}
 
 -- "=" expr
@@ -36,11 +38,11 @@ IsDeclared = ident >>= λ name. optional IsValue >>= λ value. yields (record { 
 abbrev pub IsBare : Rule Declared
 IsBare = ident >>= λ name. yields (record { name = name; value = None })
 
--- ID [ "=" expr ] | ID range
+-- ID ( range | [ "=" expr ] )
 abbrev pub IsVariable : Rule Variable
-IsVariable =
-    (IsDeclared >>= λ d. yields (v.Plain d))
-    <|> (ident >>= λ name. IsRange IsWhole >>= λ range. yields (v.Memory name range))
+IsVariable = ident >>= λ name. (
+    (IsRange IsWhole >>= λ range. yields (v.Memory name range))
+    <|> (optional IsValue >>= λ value. yields (v.Plain (record { name = name; value = value }))))
 
 -- [ "signed" ] [ range ] pset { "," pset }
 abbrev pub IsSettings : Rule ParameterGroup
@@ -54,12 +56,11 @@ IsSettings = do
 abbrev pub IsParameterGroup : Rule ParameterGroup
 IsParameterGroup = word k.Parameter >> IsSettings
 
--- "input" [ "wire" ] | "output" [ "wire" ] | "output" "reg"
+-- "input" [ "wire" ] | "output" ( "reg" | [ "wire" ] )
 abbrev pub IsPortKind : Rule PortKind
 IsPortKind =
-    (word k.Input >>= λ _. flag k.Wire >>= λ _. yields p.Input)
-    <|> (word k.Output >>= λ _. flag k.Wire >>= λ _. yields p.Output)
-    <|> (word k.Output >>= λ _. word k.Reg >>= λ _. yields p.OutputReg)
+    (word k.Input >> (flag k.Wire >> yields p.Input))
+    <|> (word k.Output >> ((word k.Reg >> yields p.OutputReg) <|> (flag k.Wire >> yields p.Output)))
 
 -- only an output reg may have a value
 abbrev pub IsPort : PortKind → Rule Declared
@@ -81,12 +82,15 @@ IsParameters =
     (mark m.Hash >>= λ _. mark m.OpenParen >>= λ _. listed IsParameterGroup >>= λ groups. mark m.CloseParen >>= λ _. yields groups)
     <|> yields []
 
+-- [ group { "," group } ] ")"
+abbrev pub IsPortList : Rule (List PortGroup)
+IsPortList =
+    (mark m.CloseParen >>= λ _. yields [])
+    <|> (listed IsPortGroup >>= λ groups. mark m.CloseParen >>= λ _. yields groups)
+
 -- [ "(" [ group { "," group } ] ")" ]
 abbrev pub IsPorts : Rule (List PortGroup)
-IsPorts =
-    (mark m.OpenParen >>= λ _. listed IsPortGroup >>= λ groups. mark m.CloseParen >>= λ _. yields groups)
-    <|> (mark m.OpenParen >>= λ _. mark m.CloseParen >>= λ _. yields [])
-    <|> yields []
+IsPorts = (mark m.OpenParen >>= λ _. IsPortList) <|> yields []
 
 abbrev pub IsParameterItem : Rule Item
 IsParameterItem = do
@@ -127,36 +131,53 @@ IsAssignItem = do
   mark m.Semicolon
   yields (i.Assigns settings)
 
--- "always" "@" "(" "posedge" ID ")" stmt
+-- "*" (9.7.5)
+abbrev pub IsAnyEvent : Rule Event
+IsAnyEvent = mark m.Star >> yields events.Any
+
+-- "posedge" ID
+abbrev pub IsPosedge : Rule Event
+IsPosedge = word k.Posedge >> (ident >>= λ name. yields (events.Posedge name))
+
+-- "(" ( "*" | "posedge" ID ) ")"
+abbrev pub IsEventGroup : Rule Event
+IsEventGroup = do
+  mark m.OpenParen
+  event ← IsAnyEvent <|> IsPosedge
+  mark m.CloseParen
+  yields event
+
+-- "always" "@" ( "*" | "(" "*" ")" | "(" "posedge" ID ")" ) stmt
 abbrev pub IsAlwaysItem : Rule Item
 IsAlwaysItem = do
   word k.Always
   mark m.At
-  mark m.OpenParen
-  word k.Posedge
-  event ← ident
-  mark m.CloseParen
-  body ← IsStmt 199 false
+  event ← IsAnyEvent <|> IsEventGroup
+  body ← IsStmt inner_levels false
   yields (i.Always event body)
 
 abbrev pub IsItem : Rule Item
 IsItem = IsParameterItem <|> IsLocalParameterItem <|> IsWireItem <|> IsRegItem <|> IsAssignItem <|> IsAlwaysItem
 
-abbrev pub IsModule : Rule Module
-IsModule = do
+-- A module over what its items are, which is made of its name, parameters, ports and items.
+abbrev pub IsModuleOf : {I M : Type 0} → Rule I → (Ident → List ParameterGroup → List PortGroup → List I → M) → Rule M
+IsModuleOf item made = do
   word k.Module
   name ← ident
   parameters ← IsParameters
   ports ← IsPorts
   mark m.Semicolon
-  items ← many IsItem
+  items ← many item
   word k.Endmodule
-  yields (record { name = name; parameters = parameters; ports = ports; items = items })
+  yields (made name parameters ports items)
+
+abbrev pub IsModule : Rule Module
+IsModule = IsModuleOf IsItem (λ name parameters ports items. record { name = name; parameters = parameters; ports = ports; items = items })
 
 -- all of the tokens are the module's
 abbrev pub Derives : List Token → Module → Type 0
-Derives tokens module_ = IsModule tokens [] module_
+Derives = DerivesBy IsModule
 
 -- some module's tokens begin with these
 abbrev pub IsViable : List Token → Type 0
-IsViable tokens = (more : List Token) × (module_ : Module) × Derives (tokens ++ more) module_
+IsViable = IsViableBy IsModule

@@ -1,5 +1,5 @@
 -- What the grammar's productions are made of.
-use Rattle.std.specs.Prelude.{◌≡◌, ◌⊎◌, ℕ, zero, suc, Bool, true, false, List, [], ◌∷◌, Option, None, Some}
+use Rattle.std.specs.Prelude.{◌≡◌, ◌⊎◌, ℕ, Bool, true, false, List, [], ◌∷◌, ◌++◌, Option, None, Some}
 use Rattle.v_syntax.specs.declared.token.Ident.{Ident}
 use Rattle.v_syntax.specs.declared.token.Token.{Token}
 use Rattle.v_syntax.specs.declared.token.Lexeme.{Lexeme}
@@ -7,6 +7,7 @@ use Rattle.v_syntax.specs.declared.token.Lexeme.TheVariants as l
 use Rattle.v_syntax.specs.declared.token.Keyword.{Keyword}
 use Rattle.v_syntax.specs.declared.token.Mark.{Mark}
 use Rattle.v_syntax.specs.declared.token.Mark.TheVariants as m
+use Rattle.v_syntax.specs.Tokens.{HaveForms}
 
 -- A production: the tokens at its beginning, the tokens behind it, and what it derives.
 abbrev pub Rule : Type 0 → Type 1
@@ -14,7 +15,7 @@ Rule V = List Token → List Token → V → Type 0
 
 infixl 10 ◌>>=◌
 infixl 10 ◌>>◌
-infixl 8 ◌<|>◌
+infixr 8 ◌<|>◌
 -- one production, and behind it another, which may speak of what the first derives
 abbrev pub ◌>>=◌ : {A B : Type 0} → Rule A → (A → Rule B) → Rule B
 ◌>>=◌ {A = A} P Q before after b = (between : List Token) × (a : A) × P before between a × Q a between after b
@@ -67,3 +68,14 @@ several P = P >>= λ first. many P >>= λ others. yields (first ∷ others)
 -- P { "," P }
 abbrev pub listed : {A : Type 0} → Rule A → Rule (List A)
 listed P = P >>= λ first. many (mark m.Comma >> P) >>= λ others. yields (first ∷ others)
+
+-- all of the tokens are the production's
+abbrev pub DerivesBy : {A : Type 0} → Rule A → List Token → A → Type 0
+DerivesBy P tokens a = P tokens [] a
+
+-- tokens of a production begin with these; the further ones have the forms of their kinds
+pub record IsViableBy {A : Type 0} (P : Rule A) (tokens : List Token) : Type 0 where
+  pub more : List Token
+  pub forms : HaveForms more
+  pub value : A
+  pub derived : DerivesBy P (tokens ++ more) value

@@ -1,6 +1,6 @@
 -- The small texts: modules of one-bit registers, one of which is assigned at each edge of the clock.
-use Rattle.std.specs.Prelude.{◌≡◌, ◌⊎◌, ℕ, List, [], ◌∷◌, ◌++◌, map, flat_map, if◌then◌else◌, ⊤}
-use Rattle.lz_base.specs.Names.{AreDistinct}
+use Rattle.std.specs.Prelude.{◌≡◌, ℕ, List, [], ◌∷◌, ◌++◌, map, flat_map, if◌then◌else◌}
+use Rattle.lz_base.specs.Names.{AreDistinct, IsAmong, AreAmong}
 use Rattle.v_syntax.specs.declared.token.Ident.{Ident}
 use Rattle.v_syntax.specs.declared.token.Token.{Token}
 use Rattle.v_syntax.specs.declared.token.Lexeme.{Lexeme}
@@ -87,16 +87,6 @@ port_names (Register i ∷ ports) = i.name ∷ port_names ports
 abbrev pub read_names : SmallExpr → List (List ℕ)
 read_names (One a) = a.name.name ∷ []
 read_names (Two a operator b) = a.name.name ∷ b.name.name ∷ []
-
--- the name is one of these
-abbrev pub IsAmong : List ℕ → List (List ℕ) → Type 0
-IsAmong name [] = ⊥
-IsAmong name (other ∷ names) = (name ≡ other) ⊎ IsAmong name names
-
--- each of the names is one of those
-abbrev pub AreAmong : List (List ℕ) → List (List ℕ) → Type 0
-AreAmong [] names = ⊤
-AreAmong (name ∷ more) names = IsAmong name names × AreAmong more names
 
 -- The names of a small module agree: the ports' names are distinct, the event names the clock, a register is assigned,
 -- and the value reads ports, of which the clock is none.

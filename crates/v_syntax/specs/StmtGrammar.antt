@@ -1,6 +1,5 @@
 -- The grammar of targets and statements. From IEEE Std 1364-2005, annexes A.6 and A.8.5.
-use Rattle.std.specs.Prelude.{◌≡◌, ◌⊎◌, ℕ, zero, suc, Bool, true, false, List, [], ◌∷◌}
-use Rattle.v_syntax.specs.declared.token.Token.{Token}
+use Rattle.std.specs.Prelude.{ℕ, zero, suc, Bool, true, false, []}
 use Rattle.v_syntax.specs.declared.token.Mark.TheVariants as m
 use Rattle.v_syntax.specs.declared.token.Keyword.TheVariants as k
 use Rattle.v_syntax.specs.declared.expr.Expr.{Expr}
@@ -16,11 +15,11 @@ use Rattle.v_syntax.specs.declared.stmt.Arm.{Arm}
 use Rattle.v_syntax.specs.declared.stmt.Stmt.{Stmt}
 use Rattle.v_syntax.specs.declared.stmt.Stmt.TheVariants as s
 use Rattle.v_syntax.specs.Rule.{Rule, ◌>>=◌, ◌>>◌, ◌<|>◌, yields, mark, word, ident, many, several, listed}
-use Rattle.v_syntax.specs.Grammar.{IsExpr, IsRange}
+use Rattle.v_syntax.specs.Grammar.{inner_levels, IsExpr, IsRange}
 
--- an expression that stands in no other one: 199 more levels may stand in it
+-- an expression that stands in no other one
 abbrev pub IsWhole : Rule Expr
-IsWhole = IsExpr 199
+IsWhole = IsExpr inner_levels
 
 -- ID "[" expr "]"
 abbrev pub IsSelected : Rule Target
@@ -49,7 +48,7 @@ IsBraced target = do
 -- target, that holds at most so many levels of braces
 unfoldable pub IsTarget : ℕ → Rule Target
 IsTarget zero = IsPlace
-IsTarget (suc levels) = IsPlace <|> IsBraced (IsTarget levels)
+IsTarget (suc levels) = IsBraced (IsTarget levels) <|> IsPlace
 
 -- "=" | "<="
 abbrev pub IsAssignKind : Rule AssignKind
@@ -58,7 +57,7 @@ IsAssignKind = (mark m.Equal >> yields a.Blocking) <|> (mark m.LessEqual >> yiel
 -- target ( "=" | "<=" ) expr ";"
 abbrev pub IsAssign : Rule Stmt
 IsAssign = do
-  target ← IsTarget 199
+  target ← IsTarget inner_levels
   kind ← IsAssignKind
   value ← IsWhole
   mark m.Semicolon
@@ -95,12 +94,11 @@ IsCondition = do
 abbrev pub IsCaseKind : Rule CaseKind
 IsCaseKind = (word k.Case >> yields c.Case) <|> (word k.Casez >> yields c.Casez)
 
--- expr { "," expr } ":" | "default" [ ":" ]
+-- "default" [ ":" ] | expr { "," expr } ":"
 abbrev pub IsLabel : Rule Label
 IsLabel =
-    (listed IsWhole >>= λ items. mark m.Colon >> yields (l.Items items))
-    <|> (word k.Default >>= λ at. mark m.Colon >> yields (l.Default at))
-    <|> (word k.Default >>= λ at. yields (l.Default at))
+    (word k.Default >>= λ at. ((mark m.Colon >> yields (l.Default at)) <|> yields (l.Default at)))
+    <|> (listed IsWhole >>= λ items. mark m.Colon >> yields (l.Items items))
 
 abbrev pub IsArm : Rule Stmt → Rule Arm
 IsArm stmt = do

@@ -1,7 +1,9 @@
 -- The tokens of a source text. After IEEE Std 1364-2005, clause 3.
-use Rattle.std.specs.Prelude.{◌≡◌, ◌≢◌, ◌≤◌, ◌<◌, ◌+◌, ◌^◌, ◌⊎◌, ◌==◌, ◌||◌, ◌&&◌, not, if◌then◌else◌, ⊤, ℕ, Bool, true, false, IsTrue, List, [], ◌∷◌, ◌++◌, length, codes}
+use Rattle.std.specs.Prelude.{◌≡◌, ◌≢◌, ◌≤◌, ◌<◌, ◌+◌, ◌==◌, ◌&&◌, not, ⊤, ℕ, Bool, true, false, IsTrue, List, [], ◌∷◌, ◌++◌, length, codes}
 use Rattle.std.specs.List.{list_all}
-use Rattle.lz_base.specs.Names.{is_name, is_name_byte, is_between, IsNew}
+use Rattle.lz_base.specs.Names.{is_name, is_name_byte, IsNew, IsAmong}
+use Rattle.lz_base.specs.Limits.{source_limit}
+use Rattle.v_syntax.specs.Numbers.{is_white, is_plain, IsBased}
 use Rattle.v_syntax.specs.declared.token.Token.{Token}
 use Rattle.v_syntax.specs.declared.token.Lexeme.{Lexeme}
 use Rattle.v_syntax.specs.declared.token.Lexeme.TheVariants as l
@@ -11,10 +13,6 @@ use Rattle.v_syntax.specs.declared.token.Mark.{Mark}
 use Rattle.v_syntax.specs.declared.token.Mark.TheVariants as m
 use Rattle.v_syntax.specs.declared.token.Cast.{Cast}
 use Rattle.v_syntax.specs.declared.token.Cast.TheVariants as c
-
--- white space: space, tab, LF, form feed, CR (3.2)
-abbrev pub is_white : ℕ → Bool
-is_white byte = byte == 32 || byte == 9 || byte == 10 || byte == 12 || byte == 13
 
 -- the reserved words that the grammar uses (3.7.2)
 unfoldable pub keyword_spelling : Keyword → List ℕ
@@ -48,11 +46,6 @@ unused_words =
     ∷ codes "supply1" ∷ codes "and" ∷ codes "or" ∷ codes "not" ∷ codes "nand" ∷ codes "nor" ∷ codes "xor" ∷ codes "xnor"
     ∷ codes "buf" ∷ codes "specify" ∷ codes "endspecify" ∷ codes "primitive" ∷ codes "endprimitive" ∷ codes "defparam" ∷ codes "event" ∷ codes "fork"
     ∷ codes "join" ∷ codes "disable" ∷ codes "force" ∷ codes "release" ∷ codes "deassign" ∷ codes "edge" ∷ []
-
--- the word is one of these
-abbrev pub IsOneOf : List ℕ → List (List ℕ) → Type 0
-IsOneOf word [] = ⊥
-IsOneOf word (other ∷ words) = (word ≡ other) ⊎ IsOneOf word words
 
 -- the marks of punctuation (3.1) and the operators (3.4, 5.1)
 unfoldable pub mark_spelling : Mark → List ℕ
@@ -110,83 +103,13 @@ spelling (l.Decimal bytes) = bytes
 spelling (l.Based bytes) = bytes
 spelling (l.Mark mark) = mark_spelling mark
 
--- ---- numbers (3.5.1)
-
--- x, z or ?, which stands for z (3.5.1)
-abbrev pub is_unknown_digit : ℕ → Bool
-is_unknown_digit byte = byte == 120 || byte == 88 || byte == 122 || byte == 90 || byte == 63
-
--- the letters of the bases 2, 8, 10 and 16
-abbrev pub is_binary : ℕ → Bool
-is_binary letter = letter == 98 || letter == 66
-
-abbrev pub is_octal : ℕ → Bool
-is_octal letter = letter == 111 || letter == 79
-
-abbrev pub is_decimal : ℕ → Bool
-is_decimal letter = letter == 100 || letter == 68
-
-abbrev pub is_hexadecimal : ℕ → Bool
-is_hexadecimal letter = letter == 104 || letter == 72
-
-abbrev pub is_base : ℕ → Bool
-is_base letter = is_binary letter || is_octal letter || is_decimal letter || is_hexadecimal letter
-
-abbrev pub is_digit : ℕ → Bool
-is_digit byte = is_between 48 57 byte
-
--- a digit of the base; of base 16 where it is none of the other letters
-abbrev pub is_known_digit_of : ℕ → ℕ → Bool
-is_known_digit_of base byte =
-    if is_binary base then is_between 48 49 byte else (if is_octal base then is_between 48 55 byte else (if is_decimal base then is_digit byte
-    else is_digit byte || is_between 97 102 byte || is_between 65 70 byte))
-
--- a digit of the base, or x, z or ?
-abbrev pub is_digit_of : ℕ → ℕ → Bool
-is_digit_of base byte = is_unknown_digit byte || is_known_digit_of base byte
-
--- What may stand behind the first digit: underscores, and more digits. In base 10 x, z and ? stand alone.
-abbrev pub is_later_digit : ℕ → ℕ → ℕ → Bool
-is_later_digit base first byte = byte == 95 || (if is_decimal base then is_digit first && is_digit byte else is_digit_of base byte)
-
-abbrev pub are_digits : ℕ → List ℕ → Bool
-are_digits base [] = false
-are_digits base (first ∷ bytes) = is_digit_of base first && list_all (is_later_digit base first) bytes
-
--- a decimal digit or an underscore
-abbrev pub is_decimal_byte : ℕ → Bool
-is_decimal_byte byte = is_digit byte || byte == 95
-
--- a decimal number without a base
-abbrev pub is_plain : List ℕ → Bool
-is_plain [] = false
-is_plain (first ∷ bytes) = is_digit first && list_all is_decimal_byte bytes
-
--- nothing, or the letter of a signed number
-abbrev pub is_sign : List ℕ → Bool
-is_sign [] = true
-is_sign (letter ∷ []) = letter == 115 || letter == 83
-is_sign (letter ∷ more ∷ bytes) = false
-
--- The base and digits of a number: an apostrophe, a sign or none, the base's letter, white space or none, digits.
-pub record IsBased (bytes : List ℕ) : Type 0 where
-  pub sign : List ℕ
-  pub base : ℕ
-  pub space : List ℕ
-  pub digits : List ℕ
-  pub spelled : bytes ≡ 39 ∷ sign ++ base ∷ space ++ digits
-  pub has_sign : IsTrue (is_sign sign)
-  pub has_base : IsTrue (is_base base)
-  pub has_space : IsTrue (list_all is_white space)
-  pub has_digits : IsTrue (are_digits base digits)
-
 -- ---- tokens and what stands between them
 
 -- the bytes have the form of the kind (3.7; of numbers 3.5)
 abbrev pub HasForm : Lexeme → Type 0
 HasForm (l.Identifier name) = IsTrue (is_name name) × ((word : Keyword) → name ≢ keyword_spelling word) × IsNew name unused_words
 HasForm (l.Keyword word) = ⊤
-HasForm (l.Reserved word) = IsOneOf word unused_words
+HasForm (l.Reserved word) = IsAmong word unused_words
 HasForm (l.Cast sign) = ⊤
 HasForm (l.Decimal bytes) = IsTrue (is_plain bytes)
 HasForm (l.Based bytes) = IsBased bytes
@@ -204,14 +127,14 @@ IsLongest lexeme rest =
     → length (spelling other) ≤ length (spelling lexeme)
 
 -- the name of a system function is a whole word (3.7.3)
-abbrev pub IsWhole : Lexeme → List ℕ → Type 0
-IsWhole (l.Identifier name) rest = ⊤
-IsWhole (l.Keyword word) rest = ⊤
-IsWhole (l.Reserved word) rest = ⊤
-IsWhole (l.Cast sign) rest = IsTrue (stops is_name_byte rest)
-IsWhole (l.Decimal bytes) rest = ⊤
-IsWhole (l.Based bytes) rest = ⊤
-IsWhole (l.Mark mark) rest = ⊤
+abbrev pub IsWholeWord : Lexeme → List ℕ → Type 0
+IsWholeWord (l.Identifier name) rest = ⊤
+IsWholeWord (l.Keyword word) rest = ⊤
+IsWholeWord (l.Reserved word) rest = ⊤
+IsWholeWord (l.Cast sign) rest = IsTrue (stops is_name_byte rest)
+IsWholeWord (l.Decimal bytes) rest = ⊤
+IsWholeWord (l.Based bytes) rest = ⊤
+IsWholeWord (l.Mark mark) rest = ⊤
 
 -- A piece of a text: a white space byte, a comment of one line or of a block (3.3), a skipped directive with the rest of its line
 -- (19.2, 19.8), or a token.
@@ -256,8 +179,8 @@ IsPiece (White byte) rest = IsTrue (is_white byte)
 IsPiece (LineComment body) rest = IsTrue (list_all is_in_line body) × IsTrue (stops is_in_line rest)
 IsPiece (BlockComment body) rest = IsTrue (is_open body)
 IsPiece (Skipped word body) rest =
-    IsOneOf word skipped_words × IsTrue (stops is_name_byte body) × IsTrue (list_all is_in_line body) × IsTrue (stops is_in_line rest)
-IsPiece (Item lexeme) rest = HasForm lexeme × IsLongest lexeme rest × IsWhole lexeme rest
+    IsAmong word skipped_words × IsTrue (stops is_name_byte body) × IsTrue (list_all is_in_line body) × IsTrue (stops is_in_line rest)
+IsPiece (Item lexeme) rest = HasForm lexeme × IsLongest lexeme rest × IsWholeWord lexeme rest
 
 -- each is a piece where the pieces behind it and then the rest follow
 abbrev pub IsSplit : List Piece → List ℕ → Type 0
@@ -299,6 +222,11 @@ pub record BreaksAt (bytes : List ℕ) (at : ℕ) : Type 0 where
   pub goes_on : rest ≢ []
   pub breaks : (piece : Piece) (more : List ℕ) → Begins rest more piece → ⊥
 
+-- each token's bytes have the form of its kind
+abbrev pub HaveForms : List Token → Type 0
+HaveForms [] = ⊤
+HaveForms (token ∷ tokens) = HasForm token.lexeme × HaveForms tokens
+
 -- tokens have their forms, and their places strictly ascend from one place on and lie below another
 abbrev pub AreTokens : ℕ → ℕ → List Token → Type 0
 AreTokens from end [] = ⊤
@@ -309,6 +237,7 @@ pub record TokensValue : Type 0 where
   pub tokens : List Token
   pub end : ℕ
 
+-- they are the tokens and the end of a source
 pub record IsTokens (t : TokensValue) : Type 0 where
   pub tokens : AreTokens 0 t.end t.tokens
-  pub end : t.end ≤ 2 ^ 20
+  pub end : t.end ≤ source_limit

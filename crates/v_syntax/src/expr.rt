@@ -1,4 +1,4 @@
-use crate::{Cast, Ident};
+use crate::{Based, Cast, Decimal, Ident};
 use lz_base::{Boxed, Items};
 
 /// An operator before its operand.
@@ -54,11 +54,11 @@ pub enum BinaryOperator {
 #[derive(Debug, Drop)]
 pub enum Spelling {
     /// Decimal digits alone.
-    Decimal(Items<u8>),
+    Decimal(Decimal),
     /// A base and its digits, without a size.
-    Based(Items<u8>),
+    Based(Based),
     /// A size, then a base and its digits.
-    Sized(Items<u8>, Items<u8>),
+    Sized(Decimal, Based),
 }
 
 /// A number and its first byte.
@@ -67,6 +67,10 @@ pub struct Number {
     pub at: u64,
     pub spelling: Spelling,
 }
+
+/// How many levels of nesting stand below the first one at most: expressions, statements and the braces of targets
+/// are nested 200 levels deep at most.
+pub const INNER_LEVELS: u32 = 199;
 
 /// An expression as it is written, without its parentheses.
 #[derive(Debug, Drop)]

@@ -47,6 +47,15 @@ pub struct PortGroup {
     pub ports: Items<Declared>,
 }
 
+/// When a process runs its body.
+#[derive(Debug, Drop)]
+pub enum Event {
+    /// `posedge name`: at each rising edge of the named net (IEEE Std 1364-2005, 9.7.1).
+    Posedge(Ident),
+    /// `*`: whenever a net or variable changes that the body reads (9.7.5).
+    Any,
+}
+
 /// A declaration, an assignment of nets, or a process.
 #[derive(Debug, Drop)]
 pub enum Item {
@@ -63,9 +72,9 @@ pub enum Item {
         variables: Items<Variable>,
     },
     Assigns(Items<Setting>),
-    /// `always @(posedge event) body`
+    /// `always @(event) body`
     Always {
-        event: Ident,
+        event: Event,
         body: Stmt,
     },
 }

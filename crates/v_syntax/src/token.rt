@@ -1,4 +1,5 @@
-use lz_base::{Items, Name};
+use crate::{Based, Decimal};
+use lz_base::Name;
 
 /// A reserved word that the grammar uses.
 #[derive(Clone, Copy, Debug, PartialEq, Eq)]
@@ -84,10 +85,10 @@ pub enum Lexeme {
     /// A reserved word that stands in no rule of the grammar.
     Reserved(Name),
     Cast(Cast),
-    /// An unsized decimal number, as it is spelled.
-    Decimal(Items<u8>),
-    /// A base and its digits, as they are spelled.
-    Based(Items<u8>),
+    /// A decimal number, which may be the size of a based one.
+    Decimal(Decimal),
+    /// A base and its digits.
+    Based(Based),
     Mark(Mark),
 }
 

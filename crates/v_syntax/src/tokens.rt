@@ -1,4 +1,5 @@
-ghost use Rattle.std.specs.Prelude.{◌≡◌, ◌≤◌, ◌^◌};
+ghost use Rattle.std.specs.Prelude.{◌≡◌, ◌≤◌};
+ghost use Rattle.lz_base.specs.Limits.{source_limit};
 ghost use Rattle.v_syntax.specs.Tokens.{AreTokens};
 
 use crate::Token;
@@ -8,7 +9,7 @@ use std::marker::Model;
 /// The tokens of a source file in their order, and the file's end.
 ///
 /// Each token's bytes have the form of its kind. The places strictly ascend and lie below the end, which is at
-/// most 2^20.
+/// most `SOURCE_LIMIT`.
 #[derive(Debug, Drop)]
 pub struct Tokens {
     tokens: Items<Token>,
@@ -29,7 +30,7 @@ impl Tokens {
     /// The tokens of a file that ends at `end`, a number of bytes.
     pub fn new(tokens: Items<Token>, end: u64) -> Tokens
         requires tokens { AreTokens 0 end tokens }
-        requires end { end ≤ 2 ^ 20 }
+        requires end { end ≤ source_limit }
         ensures { result ≡ record { tokens = tokens; end = end } }
     {
         Tokens { tokens, end }
@@ -46,7 +47,7 @@ impl Tokens {
     /// The file's end: its number of bytes.
     pub fn end(&self) -> u64
         ensures value { result ≡ self.now.end }
-        ensures small { self.now.end ≤ 2 ^ 20 }
+        ensures small { self.now.end ≤ source_limit }
     {
         self.end
     }

@@ -21,6 +21,9 @@ decreases-group l = 100 * l.depth + 80
 abbrev pub decreases-more_exprs : goal.decreases-more_exprs
 decreases-more_exprs l = 100 * l.depth + 60
 
+abbrev pub decreases-inner_parts : goal.decreases-inner_parts
+decreases-inner_parts l = 100 * l.depth + 65
+
 abbrev pub decreases-replicate : goal.decreases-replicate
 decreases-replicate l = 100 * l.depth + 70
 

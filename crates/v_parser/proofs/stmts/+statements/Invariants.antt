@@ -13,13 +13,16 @@ abbrev pub decreases-block : goal.decreases-block
 decreases-block l = 10 * l.depth + 8
 
 abbrev pub decreases-arm : goal.decreases-arm
-decreases-arm l = 10 * l.depth + 5
+decreases-arm l = 10 * l.depth + 4
 
 abbrev pub decreases-more_arms : goal.decreases-more_arms
-decreases-more_arms l = 10 * l.depth + 6
+decreases-more_arms l = 10 * l.depth + 5
 
 abbrev pub decreases-arms_of : goal.decreases-arms_of
-decreases-arms_of l = 10 * l.depth + 7
+decreases-arms_of l = 10 * l.depth + 6
+
+abbrev pub decreases-case_body : goal.decreases-case_body
+decreases-case_body l = 10 * l.depth + 7
 
 abbrev pub decreases-case : goal.decreases-case
 decreases-case l = 10 * l.depth + 8

@@ -1,6 +1,10 @@
+pub mod Leaves
 pub mod Netlist
+pub mod Form
 pub mod Text
 pub mod Run
+pub mod OldRun
 pub mod Walk
+pub mod AsMachine
 pub mod Cell
 pub mod Views

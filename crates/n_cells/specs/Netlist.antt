@@ -6,6 +6,7 @@ use Rattle.lz_base.specs.Names.{AreDistinct}
 use Rattle.n_cells.specs.declared.netlist.Flop.{Flop}
 use Rattle.n_cells.specs.declared.netlist.Stored.{Stored}
 use Rattle.n_cells.specs.declared.netlist.Stored.TheVariants.{Lut, Carry}
+use Rattle.n_cells.specs.Leaves.{most_leaves}
 
 -- A netlist, line by line. Each output has its port, and in `nets` its nets, bit 0 first.
 pub record NetlistValue : Type 0 where
@@ -45,9 +46,9 @@ abbrev pub AllBelow : ℕ → List ℕ → Type 0
 AllBelow high [] = ⊤
 AllBelow high (x ∷ xs) = (x < high) × AllBelow high xs
 
--- The form of a cell's line: at most four leaves, and a table of as many bits as they have values.
+-- The form of a cell: at most so many leaves, and a table of as many bits as they have values.
 abbrev pub HasShape : Stored → Type 0
-HasShape (Lut leaves table) = (length leaves ≤ 4) × (table < 2 ^ (2 ^ length leaves))
+HasShape (Lut leaves table) = (length leaves ≤ most_leaves) × (table < 2 ^ (2 ^ length leaves))
 HasShape (Carry a b c) = ⊤
 
 abbrev pub HaveShapes : List Stored → Type 0
@@ -86,10 +87,10 @@ abbrev pub HasClock : Option (List ℕ) → List Flop → Type 0
 HasClock clock [] = ⊤
 HasClock clock (f ∷ fs) = IsSome clock
 
--- the nets of the flip-flops are there
+-- the nets and the enables of the flip-flops are there
 abbrev pub FlopsBelow : ℕ → List Flop → Type 0
 FlopsBelow count [] = ⊤
-FlopsBelow count (f ∷ fs) = (f.net < count) × FlopsBelow count fs
+FlopsBelow count (f ∷ fs) = (f.net < count) × (f.enable < count) × FlopsBelow count fs
 
 -- the names of the clock, the inputs and the outputs
 abbrev pub names_of : NetlistValue → List (List ℕ)

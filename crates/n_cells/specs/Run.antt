@@ -3,6 +3,7 @@ use Rattle.std.specs.Prelude.{◌≡◌, ℕ, ◌+◌, ◌*◌, ◌/◌, ◌%◌
 use Rattle.std.specs.Bool.{xor}
 use Rattle.lz_base.specs.Bits.{word_of, words_bits}
 use Rattle.lz_base.specs.WordValue.{WordValue}
+use Rattle.n_cells.specs.declared.netlist.Flop.{Flop}
 use Rattle.n_cells.specs.declared.netlist.Stored.{Stored}
 use Rattle.n_cells.specs.declared.netlist.Stored.TheVariants.{Lut, Carry}
 use Rattle.n_cells.specs.Netlist.{NetlistValue, net_count, first_net}
@@ -44,9 +45,15 @@ pub record IsValuation (n : NetlistValue) (inputs : List WordValue) (state value
 abbrev pub shown : NetlistValue → List Bool → List WordValue
 shown n values = map (λ nets. word_of (map (value_at values) nets)) n.nets
 
--- what the flip-flops take at the edge
-abbrev pub next_state : NetlistValue → List Bool → List Bool
-next_state n values = map (λ f. value_at values f.net) n.flops
+-- What flip-flops with these bits hold behind the edge: the value of the net where the enable's is 1, and else the bit.
+abbrev pub after_edge : List Bool → List Flop → List Bool → List Bool
+after_edge values [] bits = []
+after_edge values (f ∷ fs) [] = []
+after_edge values (f ∷ fs) (bit ∷ bits) = (if value_at values f.enable then value_at values f.net else bit) ∷ after_edge values fs bits
+
+-- the bits in the flip-flops behind the edge, where these are the bits before it and the values of the nets
+abbrev pub next_state : NetlistValue → List Bool → List Bool → List Bool
+next_state n state values = after_edge values n.flops state
 
 -- what the flip-flops hold at first
 abbrev pub first_state : NetlistValue → List Bool
@@ -58,4 +65,4 @@ Runs n state [] [] = ⊤
 Runs n state [] (outputs ∷ more) = ⊥
 Runs n state (inputs ∷ cycles) [] = ⊥
 Runs n state (inputs ∷ cycles) (outputs ∷ more) =
-    (values : List Bool) × IsValuation n inputs state values × (outputs ≡ shown n values) × Runs n (next_state n values) cycles more
+    (values : List Bool) × IsValuation n inputs state values × (outputs ≡ shown n values) × Runs n (next_state n state values) cycles more

@@ -1,7 +1,9 @@
--- The one spelling of a netlist.
+-- The one spelling of a netlist in each format.
 use Rattle.std.specs.Prelude.{ℕ, ◌^◌, List, [], ◌∷◌, ◌++◌, length, flat_map, codes, Option, None, Some, Bool, true, false}
 use Rattle.lz_base.specs.declared.name.Port.{Port}
 use Rattle.lz_lines.specs.Fields.{field, number, hex}
+use Rattle.n_cells.specs.declared.format.Format.{Format}
+use Rattle.n_cells.specs.declared.format.Format.TheVariants.{One, Two}
 use Rattle.n_cells.specs.declared.netlist.Flop.{Flop}
 use Rattle.n_cells.specs.declared.netlist.Stored.{Stored}
 use Rattle.n_cells.specs.declared.netlist.Stored.TheVariants.{Lut, Carry}
@@ -20,9 +22,10 @@ abbrev pub bit_digit : Bool → List ℕ
 bit_digit false = codes " 0"
 bit_digit true = codes " 1"
 
--- ff BIT NET
-abbrev pub flop_line : Flop → List ℕ
-flop_line f = codes "ff" ++ bit_digit f.first ++ number f.net ++ 10 ∷ []
+-- ff BIT NET, and in format 2 ENABLE
+abbrev pub flop_line : Format → Flop → List ℕ
+flop_line One f = codes "ff" ++ bit_digit f.first ++ number f.net ++ 10 ∷ []
+flop_line Two f = codes "ff" ++ bit_digit f.first ++ number f.net ++ number f.enable ++ 10 ∷ []
 
 -- lut K NET .. TABLE, or carry NET NET NET
 abbrev pub cell_line : Stored → List ℕ
@@ -38,7 +41,12 @@ output_lines [] nets = []
 output_lines (p ∷ ps) [] = []
 output_lines (p ∷ ps) (n ∷ ns) = output_line p n ++ output_lines ps ns
 
+-- lutnet and the format's number
+abbrev pub first_line : Format → List ℕ
+first_line One = codes "lutnet 1" ++ 10 ∷ []
+first_line Two = codes "lutnet 2" ++ 10 ∷ []
+
 -- the whole text
-abbrev pub text : NetlistValue → List ℕ
-text n = codes "lutnet 1" ++ 10 ∷ codes "model" ++ field n.name ++ 10 ∷ clock_line n.clock ++ flat_map input_line n.inputs ++ flat_map flop_line n.flops
+abbrev pub text : Format → NetlistValue → List ℕ
+text format n = first_line format ++ codes "model" ++ field n.name ++ 10 ∷ clock_line n.clock ++ flat_map input_line n.inputs ++ flat_map (flop_line format) n.flops
     ++ flat_map cell_line n.cells ++ output_lines n.outputs n.nets ++ codes "end" ++ 10 ∷ []

@@ -9,11 +9,14 @@
 //! memory, changes nothing, and a well-formed netlist has exactly one valuation in each cycle.
 #![tactic(auto)]
 
+mod format;
 mod law;
 mod leaves;
 mod netlist;
 
-pub use law::{net_after_net, one_valuation};
+pub use format::Format;
+pub use law::{machine_lasts, machine_step, net_after_net, old_run, one_valuation};
+pub use leaves::{LEAVES, Leaves};
 pub use netlist::{Cell, Flop, Netlist, NetlistMaker};
 
 #[cfg(test)]

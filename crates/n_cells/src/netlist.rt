@@ -2,6 +2,7 @@ ghost use Rattle.std.specs.Prelude.{◌≡◌, ◌<◌, ◌≤◌, ◌^◌, ◌+
 ghost use Rattle.std.specs.Option.{option_copied};
 ghost use Rattle.lz_base.specs.Names.{IsNew};
 ghost use Rattle.n_cells.specs.Cell.{stored_of};
+ghost use Rattle.n_cells.specs.Leaves.{most_leaves};
 ghost use Rattle.n_cells.specs.Netlist.{HasShape, HaveWidths, names_of, net_count, AllBelow, FlopsBelow, IsWellFormed};
 
 use crate::leaves::Leaves;
@@ -9,14 +10,16 @@ use lz_base::{Items, Name, Num, OutOfMemory, Port};
 use std::alloc::Global;
 use std::marker::Model;
 
-/// A flip-flop: the bit that it starts with, and the net that it takes at the edge.
+/// A flip-flop: the bit that it starts with, the net that it takes at the edge where its enable is 1, and the net that
+/// is its enable. Where the enable is 0 it keeps its bit.
 #[derive(Clone, Copy, Debug, PartialEq, Eq)]
 pub struct Flop {
     pub first: bool,
     pub net: Num,
+    pub enable: Num,
 }
 
-/// A cell, as it is read: a look-up table of up to four leaves, which has one net, or a carry cell over three nets,
+/// A cell, as it is read: a look-up table of up to six leaves, which has one net, or a carry cell over three nets,
 /// which has two, their sum and then their majority. Bit i of a table is the output where leaf j has bit j of i.
 #[derive(Clone, Copy, Debug)]
 pub enum Cell<'a> {
@@ -81,7 +84,7 @@ impl Netlist {
         self.inputs.as_slice()
     }
 
-    /// The flip-flops in order. Each takes a net that is there.
+    /// The flip-flops in order. The net and the enable of each are there.
     pub fn flops(&self) -> &[Flop]
         ensures flops { result.now ≡ self.now.flops }
         ensures there { FlopsBelow (net_count self.now) self.now.flops }
@@ -97,7 +100,7 @@ impl Netlist {
         self.cells.len()
     }
 
-    /// The cell at an index: a look-up table has at most four leaves, and a table below 2^(2^leaves).
+    /// The cell at an index: a look-up table has at most six leaves, and a table below 2^(2^leaves).
     #[tactic(auto, using(crate::proofs::Lines::shape_there))]
     pub fn cell(&self, index: usize) -> Cell<'_>
         requires { index < length self.now.cells }
@@ -211,22 +214,22 @@ impl NetlistMaker {
         Ok(())
     }
 
-    /// Appends a flip-flop that starts with a bit and takes a net, which may come later.
-    pub fn flip(&mut self, first: bool, net: Num) -> Result<(), OutOfMemory>
+    /// Appends a flip-flop that starts with a bit and takes a net where its enable is 1. Both nets may come later.
+    pub fn flip(&mut self, first: bool, net: Num, enable: Num) -> Result<(), OutOfMemory>
         requires clocked { IsSome self.old.clock }
         requires no_cell { self.old.cells ≡ [] }
         requires no_output { self.old.outputs ≡ [] }
-        ensures ok { OnOk result (self.new ≡ record self.old { flops = self.old.flops ++ record { first = first; net = net } ∷ [] }) }
+        ensures ok { OnOk result (self.new ≡ record self.old { flops = self.old.flops ++ record { first = first; net = net; enable = enable } ∷ [] }) }
         ensures err { OnErr result (self.new ≡ self.old) }
     {
-        self.flops.push(Flop { first, net })?;
+        self.flops.push(Flop { first, net, enable })?;
         Ok(())
     }
 
     /// Appends a look-up table over nets that are there.
     pub fn lut(&mut self, leaves: &[Num], table: u64) -> Result<(), OutOfMemory>
         requires no_output { self.old.outputs ≡ [] }
-        requires few { length leaves.now ≤ 4 }
+        requires few { length leaves.now ≤ most_leaves }
         requires fits { table < 2 ^ (2 ^ length leaves.now) }
         requires there { AllBelow (net_count self.old) leaves.now }
         ensures ok { OnOk result (self.new ≡ record self.old { cells = self.old.cells ++ Stored.Lut leaves.now table ∷ [] }) }
@@ -271,10 +274,11 @@ impl NetlistMaker {
         }
     }
 
-    /// The netlist, where the nets of all flip-flops are there.
+    /// The netlist, where the nets and the enables of all flip-flops are there.
     pub fn finish(self) -> Netlist
         requires { FlopsBelow (net_count self) self.flops }
-        ensures { result ≡ self }
+        ensures same { result ≡ self }
+        ensures formed { IsWellFormed result }
     {
         let NetlistMaker {
             alloc: _,

@@ -1,3 +1,6 @@
 pub mod Words
 pub mod Cells
 pub mod Walks
+pub mod Edges
+pub mod Streams
+pub mod Selecting

@@ -1,15 +1,12 @@
 -- The walk over the cells of a netlist.
-use Rattle.std.proofs.Common.{◌≡◌, ◌≤◌, ◌+◌, ◌*◌, ℕ, zero, suc, List, [], ◌∷◌, ◌++◌, length, take, drop, map, slice_get, Some, Bool, true, false, if◌then◌else◌, arith, refl, ap, sym, ◌∙◌, add-one}
+use Rattle.std.proofs.Common.{◌≡◌, ◌<◌, ◌≤◌, ◌+◌, ◌*◌, ℕ, zero, suc, List, [], ◌∷◌, ◌++◌, length, take, drop, map, get_or, slice_get, Some, Bool, true, false, if◌then◌else◌, arith, refl, ap, sym, ◌∙◌, add-one, drop-cons}
 use Rattle.std.proofs.lemmas.List.{get_or-take, take_all, drop_all}
-use Rattle.lz_base.specs.Bits.{words_bits}
-use Rattle.lz_base.specs.Ports.{FitPorts}
-use Rattle.lz_base.specs.WordValue.{WordValue}
+use Rattle.std.proofs.lemmas.Grind.{common_steps}
 use Rattle.n_cells.specs.declared.netlist.Stored.{Stored}
 use Rattle.n_cells.specs.declared.netlist.Stored.TheVariants.{Lut, Carry}
-use Rattle.n_cells.specs.Netlist.{NetlistValue, IsWellFormed, AllBelow, ReadsBelow, ReadBackwards, nets_of, cell_nets, net_count, first_net}
+use Rattle.n_cells.specs.Netlist.{AllBelow, ReadsBelow, ReadBackwards, nets_of, cell_nets}
 use Rattle.n_cells.specs.Run.{value_at, index_of, table_bit}
-use Rattle.n_cells.specs.Walk.{cell_values, all_values, walked}
-use Rattle.n_sim.proofs.Words.{bits_fit}
+use Rattle.n_cells.specs.Walk.{cell_values, all_values}
 
 -- the list from an index on
 pub drop_next : {X : Type 0} (xs : List X) (i : ℕ) (x : X) → slice_get xs i ≡ Some x → drop i xs ≡ x ∷ drop (i + 1) xs
@@ -20,12 +17,16 @@ drop_next (y ∷ ys) zero x is =
 drop_next (y ∷ ys) (suc i) x is = rw (add-one (suc i)) (drop_next ys i x is ∙ rw (add-one i) refl)
 
 -- one element more
-pub map_next : {X Y : Type 0} (f : X → Y) (xs : List X) (i : ℕ) (x : X) → slice_get xs i ≡ Some x → map f (take (i + 1) xs) ≡ map f (take i xs) ++ f x ∷ []
-map_next f [] i x is = cc
-map_next f (y ∷ ys) zero x is =
+pub take_next : {X : Type 0} (xs : List X) (i : ℕ) (x : X) → slice_get xs i ≡ Some x → take (i + 1) xs ≡ take i xs ++ x ∷ []
+take_next [] i x is = cc
+take_next (y ∷ ys) zero x is =
     let e : y ≡ x = cc in
     rw e refl
-map_next f (y ∷ ys) (suc i) x is = rw (add-one (suc i)) (ap (λ l. f y ∷ l) (rw (add-one i) at (map_next f ys i x is)))
+take_next (y ∷ ys) (suc i) x is = rw (add-one (suc i)) (ap (λ l. y ∷ l) (rw (add-one i) at (take_next ys i x is)))
+
+-- the list from the item of a loop on, whatever it is seen as
+pub item_next : {X : Type 0} (xs : List X) (i : ℕ) (x seen : X) → x ≡ get_or xs i x → seen ≡ x → i < length xs → drop i xs ≡ seen ∷ drop (i + 1) xs
+item_next xs i x seen is e lt = drop-cons xs i x lt ∙ rw (← is, add-one i, e) refl
 
 index_front : (values : List Bool) (next : ℕ) (leaves : List ℕ) → AllBelow next leaves → index_of (take next values) leaves ≡ index_of values leaves
 index_front values next [] below = refl
@@ -42,51 +43,56 @@ cell_front values next (Carry a b c) below =
     let ec = get_or-take next values c false below.2 in
     rw (ea, eb, ec) refl
 
--- What holds before the cell at an index, whose first net is the next one: with the values so far, the cells that are
--- left give all values.
-pub record Walks (n : NetlistValue) (all nets : List Bool) (next i : ℕ) : Type 0 where
-  pub left : next + cell_nets (drop i n.cells) ≡ net_count n
-  pub there : ReadBackwards next (drop i n.cells)
-  pub values : all_values (take next nets) (drop i n.cells) ≡ all
+-- The cells that are left, of which the first has the next net, have room up to the last net, and read nets that are
+-- there.
+pub record Reaches (cells : List Stored) (count next : ℕ) : Type 0 where
+  pub left : next + cell_nets cells ≡ count
+  pub there : ReadBackwards next cells
+  pub some : 0 < next
 
--- the cell at the index reads nets that are there
-pub walk_reads : (n : NetlistValue) (all nets : List Bool) (next i : ℕ) (c : Stored) → Walks n all nets next i → slice_get n.cells i ≡ Some c → ReadsBelow next c
-walk_reads n all nets next i c w is =
-    let there = rw (drop_next n.cells i c is) at w.there in
-    there.0
-
--- the nets of the cell at the index have room
-pub walk_room : (n : NetlistValue) (all nets : List Bool) (next i : ℕ) (c : Stored) → Walks n all nets next i → slice_get n.cells i ≡ Some c → next + nets_of c ≤ net_count n
-walk_room n all nets next i c w is =
-    let left = rw (drop_next n.cells i c is) at w.left in
+-- the first of them
+pub reach_room : (cells more : List Stored) (c : Stored) (count next : ℕ) → cells ≡ c ∷ more → Reaches cells count next → next + nets_of c ≤ count
+reach_room cells more c count next e r =
+    let left = rw e at r.left in
     omega (arith, left)
 
-pub walk_on : (n : NetlistValue) (all nets more : List Bool) (next after i : ℕ) (c : Stored) → Walks n all nets next i → slice_get n.cells i ≡ Some c
-    → after ≡ next + nets_of c → take after more ≡ take next nets ++ cell_values nets c → Walks n all more after (i + 1)
-walk_on n all nets more next after i c w is e v =
-    let there = rw (drop_next n.cells i c is) at w.there in
-    let left = rw (drop_next n.cells i c is) at w.left in
-    let values = rw (drop_next n.cells i c is) at w.values in
-    let here : take after more ≡ take next nets ++ cell_values (take next nets) c = v ∙ ap (λ l. take next nets ++ l) (sym (cell_front nets next c there.0)) in
+pub reach_there : (cells more : List Stored) (c : Stored) (count next : ℕ) → cells ≡ c ∷ more → Reaches cells count next → ReadsBelow next c
+reach_there cells more c count next e r =
+    let there = rw e at r.there in
+    there.0
+
+-- the others
+pub reach_on : (cells more : List Stored) (c : Stored) (count next after : ℕ) → cells ≡ c ∷ more → Reaches cells count next → after ≡ next + nets_of c → Reaches more count after
+reach_on cells more c count next after e r a =
+    let left = rw e at r.left in
+    let there = rw e at r.there in
     record {
       left = omega (arith, left);
-      there = rw e there.1;
-      values = rw here values;
+      there = rw a there.1;
+      some = omega (arith, r.some);
     }
 
-pub walk_begins : (n : NetlistValue) (inputs : List WordValue) (state nets : List Bool) (next : ℕ) → IsWellFormed n → FitPorts n.inputs inputs → length state ≡ length n.flops
-    → next ≡ 2 + length (words_bits inputs) + length state → take next nets ≡ false ∷ true ∷ words_bits inputs ++ state → Walks n (walked n inputs state) nets next 0
-walk_begins n inputs state nets next fine fit bits e v =
-    let first : next ≡ first_net n.inputs n.flops = omega (arith, bits_fit n.inputs inputs fit) in
-    record {
-      left = rw first refl;
-      there = rw first fine.begun.cells;
-      values = rw v refl;
-    }
+-- with the values so far, the first of the cells adds its own, and then the others give all values
+pub walk_on : (nets after_nets all : List Bool) (cells more : List Stored) (c : Stored) (count next after : ℕ) → cells ≡ c ∷ more → Reaches cells count next
+    → take after after_nets ≡ take next nets ++ cell_values nets c → all_values (take next nets) cells ≡ all → all_values (take after after_nets) more ≡ all
+walk_on nets after_nets all cells more c count next after e r v h =
+    let there = reach_there cells more c count next e r in
+    let values = rw e at h in
+    let here : take after after_nets ≡ take next nets ++ cell_values (take next nets) c = v ∙ ap (λ l. take next nets ++ l) (sym (cell_front nets next c there)) in
+    rw here values
 
-pub walk_ends : (n : NetlistValue) (all nets : List Bool) (next i : ℕ) → Walks n all nets next i → length n.cells ≤ i → length nets ≡ net_count n → nets ≡ all
-walk_ends n all nets next i w past room =
-    let none = drop_all i n.cells past in
-    let left = rw none at w.left in
-    let values = rw none at w.values in
+-- no cell is left
+pub walk_ends : (nets all : List Bool) (cells : List Stored) (count next : ℕ) → cells ≡ [] → Reaches cells count next → length nets ≡ count → all_values (take next nets) cells ≡ all → nets ≡ all
+walk_ends nets all cells count next e r room h =
+    let left = rw e at r.left in
+    let values = rw e at h in
     sym (take_all next nets (omega (arith, left, room))) ∙ values
+
+-- the first net keeps its value
+pub zero_kept : (nets after_nets new : List Bool) (next after : ℕ) → 0 < next → next ≤ length nets → next ≤ after → take after after_nets ≡ take next nets ++ new → value_at after_nets 0 ≡ value_at nets 0
+zero_kept [] after_nets new next after some le more e = absurd (omega arith)
+zero_kept (x ∷ nets) [] new (suc next) zero some le more e = absurd (omega arith)
+zero_kept (x ∷ nets) [] new (suc next) (suc after) some le more e = cc
+zero_kept (x ∷ nets) (y ∷ ys) new (suc next) zero some le more e = absurd (omega arith)
+zero_kept (x ∷ nets) (y ∷ ys) new (suc next) (suc after) some le more e = cc
+zero_kept (x ∷ nets) ys new zero after some le more e = absurd (omega arith)

@@ -1,13 +1,14 @@
 -- The values before the cells, one after another.
-use Rattle.std.proofs.Common.{◌≡◌, ◌<◌, ◌≤◌, ◌+◌, ◌^◌, ◌/◌, ◌%◌, ℕ, zero, suc, List, [], ◌∷◌, ◌++◌, ◌==◌, length, take, drop, get_or, Bool, true, false, arith, refl, ap, sym, ◌∙◌, append_assoc, drop-cons, add-one, length-append}
+use Rattle.std.proofs.Common.{◌≡◌, ◌<◌, ◌≤◌, ◌+◌, ◌-◌, ◌*◌, ◌^◌, ◌/◌, ◌%◌, ℕ, zero, suc, List, [], ◌∷◌, ◌++◌, ◌==◌, length, take, drop, map, get_or, if◌then◌else◌, Bool, true, false, arith, refl, ap, sym, ◌∙◌, append_assoc, drop-cons, add-one, length-append}
 use Rattle.std.proofs.Math.ListN.{set}
-use Rattle.std.proofs.Math.Nat.{pow-le-pow_right}
+use Rattle.std.proofs.Math.Nat.{pow-le-pow_right, pow-suc}
 use Rattle.std.proofs.lemmas.List.{take_more_set}
-use Rattle.lz_base.specs.Bits.{low_bits, word_bits, words_bits}
+use Rattle.lz_base.specs.Bits.{low_bits, number_of, word_bits, words_bits}
 use Rattle.lz_base.specs.Ports.{FitPorts}
 use Rattle.lz_base.specs.WordValue.{WordValue}
 use Rattle.lz_base.specs.declared.name.Port.{Port}
 use Rattle.n_cells.specs.Netlist.{port_bits}
+use Rattle.n_cells.specs.Run.{value_at}
 
 -- no bits
 pub low_none : (left value : ℕ) → left ≡ 0 → low_bits left value ≡ []
@@ -44,10 +45,10 @@ bits_fit (p ∷ ps) [] h = absurd h
 bits_fit (p ∷ ps) (w ∷ ws) h = omega (arith, length-append (low_bits w.width w.value) (words_bits ws), length_low w.width w.value, bits_fit ps ws h.2, h.0)
 
 -- the two constants
-pub two_constants : (nets : List Bool) → 2 ≤ length nets → take 2 (set (set nets 0 false) 1 true) ≡ false ∷ true ∷ []
-two_constants [] h = absurd (omega arith)
-two_constants (a ∷ []) h = absurd (omega arith)
-two_constants (a ∷ b ∷ nets) h = refl
+pub two_constants : {X : Type 0} (a b : X) (nets : List X) → 2 ≤ length nets → take 2 (set (set nets 0 a) 1 b) ≡ a ∷ b ∷ []
+two_constants a b [] h = absurd (omega arith)
+two_constants a b (x ∷ []) h = absurd (omega arith)
+two_constants a b (x ∷ y ∷ nets) h = refl
 
 -- a number of fewer than 128 bits can be doubled
 pub number_fits : (r k : ℕ) → r < 2 ^ k → k < 128 → r < 2 ^ 127
@@ -62,3 +63,18 @@ fit_length [] [] h = refl
 fit_length [] (w ∷ ws) h = absurd h
 fit_length (p ∷ ps) [] h = absurd h
 fit_length (p ∷ ps) (w ∷ ws) h = omega (arith, fit_length ps ws h.2)
+
+-- one net more in front of those that make a number
+pub number_on : (values : List Bool) (nets : List ℕ) (i n : ℕ) → 0 < i → i ≤ length nets → n ≡ number_of (map (value_at values) (drop i nets))
+    → (if value_at values (get_or nets (i - 1) 0) then 1 else 0) + 2 * n ≡ number_of (map (value_at values) (drop (i - 1) nets))
+number_on values nets zero n some le e = absurd (omega arith)
+number_on values nets (suc i) n some le e =
+    let before : suc i - 1 ≡ i = omega arith in
+    let more : drop i nets ≡ get_or nets i 0 ∷ drop (suc i) nets = drop-cons nets i 0 (omega arith) in
+    ap (λ k. (if value_at values (get_or nets k 0) then 1 else 0) + 2 * n) before
+    ∙ ap (λ m. (if value_at values (get_or nets i 0) then 1 else 0) + 2 * m) e
+    ∙ ap (λ l. number_of (map (value_at values) l)) (sym more)
+    ∙ ap (λ k. number_of (map (value_at values) (drop k nets))) (sym before)
+
+pub fits_on : (b n k more : ℕ) → b < 2 → n < 2 ^ k → more ≡ suc k → b + 2 * n < 2 ^ more
+fits_on b n k more small fits e = rw e (omega (arith, pow-suc 2 k))

@@ -1,2 +1,6 @@
 pub mod SimValue
+pub mod Wires
+pub mod Gates
+pub mod Lanes
+pub mod Selects
 pub mod Views

@@ -1,13 +1,26 @@
--- How a simulator is seen, and what it keeps.
+-- How the simulators are seen, and what they keep.
 use Rattle.std.specs.Prelude.{◌≡◌, length}
+use Rattle.n_cells.specs.Netlist.{IsWellFormed, net_count}
+use Rattle.n_sim.specs.declared.lanes.Lanes.TheInside as lanes
 use Rattle.n_sim.specs.declared.sim.Sim.TheInside as sim
-use Rattle.n_sim.specs.SimValue.{SimValue}
-use Rattle.n_cells.specs.Netlist.{net_count}
+use Rattle.n_sim.specs.SimValue.{SimValue, LanesValue}
 
 abbrev pub sim_value : sim.Inside → SimValue
 sim_value s = record { netlist = s.netlist.now; state = s.state.items }
 
--- a bit for each flip-flop, and room for the value of each net
+-- a bit for each flip-flop, room for the value of each net, and the cells laid out
 pub record IsReady (s : sim.Inside) : Type 0 where
-  pub state : length s.state.items ≡ length s.netlist.now.flops
+  pub formed : IsWellFormed s.netlist.now
+  pub gates : s.gates ≡ s.netlist.now.cells
   pub nets : length s.nets.items ≡ net_count s.netlist.now
+  pub state : length s.state.items ≡ length s.netlist.now.flops
+
+abbrev pub lanes_value : lanes.Inside → LanesValue
+lanes_value l = record { netlist = l.netlist.now; state = l.state.items }
+
+-- a word for each flip-flop, room for the word of each net, and the cells laid out
+pub record AreReady (l : lanes.Inside) : Type 0 where
+  pub formed : IsWellFormed l.netlist.now
+  pub gates : l.gates ≡ l.netlist.now.cells
+  pub nets : length l.nets.items ≡ net_count l.netlist.now
+  pub state : length l.state.items ≡ length l.netlist.now.flops

@@ -1,28 +1,42 @@
-ghost use Rattle.std.specs.Prelude.{◌≡◌, ◌+◌, ◌<◌, ◌≤◌, ◌^◌, ◌++◌, length, take};
+ghost use Rattle.std.specs.Prelude.{◌≡◌, ◌+◌, ◌<◌, ◌≤◌, ◌++◌, length, take, false};
 ghost use Rattle.std.specs.Bool.{xor};
-ghost use Rattle.n_cells.specs.Cell.{stored_of};
-ghost use Rattle.n_cells.specs.Netlist.{AllBelow, HasShape, ReadsBelow, nets_of};
-ghost use Rattle.n_cells.specs.Run.{index_of, table_bit, majority};
-ghost use Rattle.n_cells.specs.Walk.{cell_values};
+ghost use Rattle.n_cells.specs.Netlist.{ReadsBelow, ReadBackwards, nets_of, cell_nets};
+ghost use Rattle.n_cells.specs.Run.{value_at, table_bit, majority};
+ghost use Rattle.n_cells.specs.Walk.{cell_values, all_values};
+ghost use Rattle.n_sim.specs.Gates.{kind_cell};
 
-use lz_base::Num;
-use n_cells::Cell;
+use crate::gate::{Gate, Kind};
+
+// Puts the values of the cells' nets behind those of the nets before them, cell after cell.
+pub(crate) fn put_cells(nets: &mut [bool], first: usize, gates: &[Gate])
+    requires room { first + cell_nets gates.now ≡ length nets.old }
+    requires there { ReadBackwards first gates.now }
+    requires some { 0 < first }
+    requires zero { value_at nets.old 0 ≡ false }
+    ensures { nets.new ≡ all_values (take first nets.old) gates.now }
+{
+    let mut next = first;
+    for gate in gates {
+        next = put_cell(nets, next, &gate.kind);
+    }
+}
 
 // Puts the values of a cell's nets behind those of the nets before it, and gives the number of the next net.
-pub fn put_cell(nets: &mut [bool], next: usize, cell: Cell<'_>) -> usize
-    requires room { next + nets_of (stored_of cell) ≤ length nets.old }
-    requires shape { HasShape (stored_of cell) }
-    requires there { ReadsBelow next (stored_of cell) }
-    ensures next { result ≡ next + nets_of (stored_of cell.entry) }
-    ensures values { take result nets.new ≡ take next nets.old ++ cell_values nets.old (stored_of cell.entry) }
+fn put_cell(nets: &mut [bool], next: usize, kind: &Kind) -> usize
+    requires room { next + nets_of (kind_cell kind.now) ≤ length nets.old }
+    requires there { ReadsBelow next (kind_cell kind.now) }
+    requires some { 0 < next }
+    requires zero { value_at nets.old 0 ≡ false }
+    ensures next { result ≡ next + nets_of (kind_cell kind.now) }
+    ensures values { take result nets.new ≡ take next nets.old ++ cell_values nets.old (kind_cell kind.now) }
 {
-    match cell {
-        Cell::Lut { leaves, table } => {
-            nets[next] = bit_at(table, index_at(nets, leaves));
+    match kind {
+        Kind::Lut { leaves, table } => {
+            nets[next] = bit_at(*table, leaves.index(nets));
             next + 1
         }
-        Cell::Carry(a, b, c) => {
-            let (a, b, c) = (nets[a as usize], nets[b as usize], nets[c as usize]);
+        Kind::Carry(a, b, c) => {
+            let (a, b, c) = (nets[*a as usize], nets[*b as usize], nets[*c as usize]);
             nets[next] = sum(a, b, c);
             nets[next + 1] = carry_out(a, b, c);
             next + 2
@@ -30,21 +44,8 @@ pub fn put_cell(nets: &mut [bool], next: usize, cell: Cell<'_>) -> usize
     }
 }
 
-// The number that the bits of the leaves make, the first leaf's bit lowest.
-fn index_at(nets: &[bool], leaves: &[Num]) -> u32
-    requires few { length leaves.now ≤ 4 }
-    requires there { AllBelow (length nets.now) leaves.now }
-    ensures index { result ≡ index_of nets.now leaves.now }
-    ensures bound { result < 2 ^ length leaves.now }
-{
-    match leaves.split_first() {
-        Some((leaf, rest)) => u32::from(nets[*leaf as usize]) + 2 * index_at(nets, rest),
-        None => 0,
-    }
-}
-
 // Bit i of a table.
-fn bit_at(table: u64, i: u32) -> bool
+pub(crate) fn bit_at(table: u64, i: u64) -> bool
     requires { i < 64 }
     ensures { result ≡ table_bit table i }
 {
@@ -62,5 +63,5 @@ fn sum(a: bool, b: bool, c: bool) -> bool
 fn carry_out(a: bool, b: bool, c: bool) -> bool
     ensures { result ≡ majority a b c }
 {
-    (a && b) || (a && c) || (b && c)
+    (a & b) | (a & c) | (b & c)
 }

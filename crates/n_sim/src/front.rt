@@ -1,11 +1,11 @@
-ghost use Rattle.std.specs.Prelude.{◌≡◌, ◌+◌, ◌≤◌, ◌++◌, ◌∷◌, length, take, true, false};
+ghost use Rattle.std.specs.Prelude.{◌≡◌, ◌+◌, ◌≤◌, ◌++◌, ◌∷◌, ◌^◌, ◌-◌, length, take, true, false};
 ghost use Rattle.lz_base.specs.Bits.{word_bits, words_bits};
 
 use lz_base::Word;
 
 // Puts the values of the constants, of the inputs and of the flip-flops into the first nets, and gives the number of
 // the next net.
-pub fn put_front(nets: &mut [bool], input: &[Word], state: &[bool]) -> usize
+pub(crate) fn put_front(nets: &mut [bool], input: &[Word], state: &[bool]) -> usize
     requires { 2 + length (words_bits input.now) + length state.now ≤ length nets.old }
     ensures next { result ≡ 2 + length (words_bits input.now) + length state.now }
     ensures values { take result nets.new ≡ false ∷ true ∷ words_bits input.now ++ state.now }
@@ -13,7 +13,7 @@ pub fn put_front(nets: &mut [bool], input: &[Word], state: &[bool]) -> usize
     nets[0] = false;
     nets[1] = true;
     let next = put_words(nets, 2, input);
-    put_bits(nets, next, state)
+    put_all(nets, next, state)
 }
 
 // Puts the bits of words behind the values that are there, and gives the number of the next net.
@@ -46,16 +46,29 @@ fn put_word(nets: &mut [bool], start: usize, word: &Word) -> usize
     next
 }
 
-// Puts bits behind the values that are there, and gives the number of the next net.
-fn put_bits(nets: &mut [bool], start: usize, bits: &[bool]) -> usize
-    requires { start + length bits.now ≤ length nets.old }
-    ensures next { result ≡ start + length bits.now }
-    ensures values { take result nets.new ≡ take start nets.old ++ bits.now }
+// Puts values behind those that are there, and gives the number of the next net.
+pub(crate) fn put_all<T: Copy>(nets: &mut [T], start: usize, values: &[T]) -> usize
+    requires { start + length values.now ≤ length nets.old }
+    ensures next { result ≡ start + length values.now }
+    ensures values { take result nets.new ≡ take start nets.old ++ values.now }
 {
     let mut next = start;
-    for bit in bits {
-        nets[next] = *bit;
+    for value in values {
+        nets[next] = *value;
         next += 1;
     }
     next
+}
+
+// Puts the words of the constants, of the inputs and of the flip-flops into the first nets, and gives the number of the
+// next net.
+pub(crate) fn put_lane_front(nets: &mut [u64], input: &[u64], state: &[u64]) -> usize
+    requires { 2 + length input.now + length state.now ≤ length nets.old }
+    ensures next { result ≡ 2 + length input.now + length state.now }
+    ensures values { take result nets.new ≡ 0 ∷ (2 ^ 64 - 1) ∷ input.now ++ state.now }
+{
+    nets[0] = 0;
+    nets[1] = u64::MAX;
+    let next = put_all(nets, 2, input);
+    put_all(nets, next, state)
 }

@@ -1,14 +1,15 @@
-ghost use Rattle.std.specs.Prelude.{◌≡◌, ◌+◌, List, Bool, length, map, IfOk, OnOk};
+ghost use Rattle.std.specs.Prelude.{◌≡◌, ◌+◌, List, Bool, length, map, IfOk, if◌then◌else◌};
 ghost use Rattle.lz_base.specs.Ports.{FitPorts};
-ghost use Rattle.n_cells.specs.Netlist.{net_count, nets_of, FlopsBelow};
-ghost use Rattle.n_cells.specs.Cell.{stored_of};
-ghost use Rattle.n_cells.specs.Run.{IsValuation, value_at, shown, next_state, first_state};
+ghost use Rattle.n_cells.specs.Netlist.{IsWellFormed, net_count, FlopsBelow};
+ghost use Rattle.n_cells.specs.Run.{IsValuation, shown, next_state, first_state, after_edge};
 
-use crate::cell::put_cell;
+use crate::cell::put_cells;
 use crate::front::put_front;
+use crate::gate::{Gate, lay_out};
+use crate::room::count_nets;
 use crate::word::word_at;
-use lz_base::{OutOfMemory, Word};
-use n_cells::{Cell, Flop, Netlist, net_after_net};
+use lz_base::{Items, OutOfMemory, Word};
+use n_cells::{Flop, Netlist, net_after_net};
 use std::alloc::Global;
 use std::marker::Model;
 
@@ -16,6 +17,7 @@ use std::marker::Model;
 #[derive(Debug, Drop)]
 pub struct Sim<'a> {
     netlist: &'a Netlist,
+    gates: Items<Gate>,
     state: Vec<bool>,
     nets: Vec<bool>,
 }
@@ -33,19 +35,19 @@ impl<'a> Model for Sim<'a> {
 }
 
 impl<'a> Sim<'a> {
-    /// A simulator whose flip-flops have their first bits. It reserves all that its cycles use.
+    /// A simulator whose flip-flops have their first bits. It reserves all that its cycles use. A netlist of 2^32 nets or
+    /// more finds no room.
     pub fn new(alloc: Global, netlist: &'a Netlist) -> Result<Sim<'a>, OutOfMemory>
         ensures netlist { IfOk result (λ s. s.netlist ≡ netlist.now) }
         ensures state { IfOk result (λ s. s.state ≡ first_state netlist.now) }
     {
-        let state = netlist
-            .flops()
-            .iter()
-            .map(|flop| flop.first)
-            .collect(alloc)?;
-        let nets = room(alloc, netlist)?;
+        let gates = lay_out(alloc, netlist)?;
+        let state = first_bits(alloc, netlist.flops())?;
+        let mut nets = Vec::new(alloc);
+        nets.resize(count_nets(netlist)?, false)?;
         Ok(Sim {
             netlist,
+            gates,
             state,
             nets,
         })
@@ -57,34 +59,39 @@ impl<'a> Sim<'a> {
         requires input { FitPorts self.old.netlist.inputs input.now }
         requires out { FitPorts self.old.netlist.outputs out.old }
         ensures netlist { self.new.netlist ≡ self.old.netlist }
-        ensures cycle { (values : List Bool) × IsValuation self.old.netlist input.now self.old.state values × (out.new ≡ shown self.old.netlist values) × (self.new.state ≡ next_state self.old.netlist values) }
+        ensures cycle { (values : List Bool) × IsValuation self.old.netlist input.now self.old.state values × (out.new ≡ shown self.old.netlist values) × (self.new.state ≡ next_state self.old.netlist self.old.state values) }
     {
+        let nets = self.nets.as_mut_slice();
         settle(
             self.netlist,
-            self.nets.as_mut_slice(),
+            self.gates.as_slice(),
+            nets,
             input,
             self.state.as_slice(),
         );
-        show(self.netlist, self.nets.as_slice(), out);
-        take_edge(
-            self.netlist.flops(),
-            self.nets.as_slice(),
-            self.state.as_mut_slice(),
-        );
+        show(self.netlist, nets, out);
+        take_edge(self.netlist.flops(), nets, self.state.as_mut_slice());
     }
 }
 
+// The first bit of each flip-flop.
+fn first_bits(alloc: Global, flops: &[Flop]) -> Result<Vec<bool>, OutOfMemory>
+    ensures { IfOk result (λ state. state.items ≡ map (λ f. f.first) flops.now) }
+{
+    Ok(flops.iter().map(|flop| flop.first).collect(alloc)?)
+}
+
 // Computes the values of all nets, one after another.
-fn settle(netlist: &Netlist, nets: &mut [bool], input: &[Word], state: &[bool])
+fn settle(netlist: &Netlist, gates: &[Gate], nets: &mut [bool], input: &[Word], state: &[bool])
+    requires formed { IsWellFormed netlist.now }
+    requires gates { gates.now ≡ netlist.now.cells }
     requires room { length nets.old ≡ net_count netlist.now }
     requires input { FitPorts netlist.now.inputs input.now }
     requires state { length state.now ≡ length netlist.now.flops }
     ensures { IsValuation netlist.now input.now state.now nets.new }
 {
-    let mut next = put_front(nets, input, state);
-    for i in 0..netlist.cell_count() {
-        next = put_cell(nets, next, netlist.cell(i));
-    }
+    let first = put_front(nets, input, state);
+    put_cells(nets, first, gates);
     net_after_net();
 }
 
@@ -99,53 +106,25 @@ fn show(netlist: &Netlist, nets: &[bool], out: &mut [Word])
     }
 }
 
-// Gives each flip-flop the value of its net.
-#[tactic(auto, using(crate::proofs::Cells::flop_there))]
+// Gives each flip-flop the value of its net where its enable is 1.
+#[tactic(auto, using(crate::proofs::Edges::net_there, crate::proofs::Edges::enable_there))]
 fn take_edge(flops: &[Flop], nets: &[bool], state: &mut [bool])
     requires count { length state.old ≡ length flops.now }
     requires there { FlopsBelow (length nets.now) flops.now }
-    ensures { state.new ≡ map (λ f. value_at nets.now f.net) flops.now }
+    ensures { state.new ≡ after_edge nets.now flops.now state.old }
 {
     for (i, flop) in flops.iter().enumerate() {
-        state[i] = nets[flop.net as usize];
+        state[i] = held(
+            nets[flop.enable as usize],
+            nets[flop.net as usize],
+            state[i],
+        );
     }
 }
 
-// A value for each net.
-fn room(alloc: Global, netlist: &Netlist) -> Result<Vec<bool>, OutOfMemory>
-    ensures { IfOk result (λ nets. length nets.items ≡ net_count netlist.now) }
+// The new bit where it is enabled, else the old one.
+fn held(enabled: bool, new: bool, old: bool) -> bool
+    ensures { result ≡ (if enabled then new else old) }
 {
-    let mut nets = Vec::new(alloc);
-    push_nets(&mut nets, 2)?;
-    for port in netlist.inputs() {
-        push_nets(&mut nets, port.width as usize)?;
-    }
-    push_nets(&mut nets, netlist.flops().len())?;
-    for i in 0..netlist.cell_count() {
-        push_nets(&mut nets, nets_of_cell(netlist.cell(i)))?;
-    }
-    Ok(nets)
-}
-
-// How many nets a cell makes.
-fn nets_of_cell(cell: Cell<'_>) -> usize
-    ensures { result ≡ nets_of (stored_of cell.entry) }
-{
-    match cell {
-        Cell::Lut {
-            leaves: _,
-            table: _,
-        } => 1,
-        Cell::Carry(_, _, _) => 2,
-    }
-}
-
-// So many values more.
-fn push_nets(nets: &mut Vec<bool>, count: usize) -> Result<(), OutOfMemory>
-    ensures { OnOk result (length nets.new.items ≡ length nets.old.items + count) }
-{
-    for _ in 0..count {
-        nets.push(false)?;
-    }
-    Ok(())
+    if enabled { new } else { old }
 }

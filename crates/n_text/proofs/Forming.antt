@@ -6,38 +6,60 @@ use Rattle.lz_base.specs.declared.name.Port.{Port}
 use Rattle.lz_base.specs.Names.{IsName}
 use Rattle.n_cells.specs.declared.netlist.Flop.{Flop}
 use Rattle.n_cells.specs.declared.netlist.Stored.{Stored}
-use Rattle.n_cells.specs.Netlist.{AllBelow, ReadsBelow, FlopsBelow, OutputsBelow}
-use Rattle.n_text.specs.Form.{PortsNamed, CellsBelow}
+use Rattle.n_cells.specs.declared.netlist.Stored.TheVariants as stored
+use Rattle.n_cells.specs.declared.format.Format.TheVariants as format
+use Rattle.n_cells.specs.Leaves.{most_leaves}
+use Rattle.n_cells.specs.Netlist.{NetlistValue, AllBelow, HaveShapes, ReadsBelow, FlopsBelow, OutputsBelow, IsWellFormed}
+use Rattle.n_cells.specs.Form.{PortsNamed, CellsBelow, HaveEnables, HaveFewLeaves, FitsFormat}
 use Rattle.n_text.proofs.Adding.{take_next}
-use Rattle.n_text.proofs.Nets.{below_more}
 
--- one more flip-flop whose net is below
-flops_more : (high : ℕ) (fs : List Flop) (f : Flop) → FlopsBelow high fs → f.net < high → FlopsBelow high (fs ++ f ∷ [])
-flops_more high [] f h one = (one, tt)
-flops_more high (g ∷ fs) f h one = (h.0, flops_more high fs f h.1 one)
+-- one more number that is below
+below_more : (high : ℕ) (nets : List ℕ) (net : ℕ) → AllBelow high nets → net < high → AllBelow high (nets ++ net ∷ [])
+below_more high [] net h one = (one, tt)
+below_more high (n ∷ ns) net h one = (h.0, below_more high ns net h.1 one)
+
+-- one more flip-flop whose nets are below
+pub flops_more : (high : ℕ) (fs : List Flop) (f : Flop) → FlopsBelow high fs → f.net < high → f.enable < high → FlopsBelow high (fs ++ f ∷ [])
+flops_more high [] f h one enable = (one, enable, tt)
+flops_more high (g ∷ fs) f h one enable = (h.0, h.1, flops_more high fs f h.2 one enable)
 
 -- one more port with a name
-named_more : (ps : List Port) (p : Port) → PortsNamed ps → IsName p.name → PortsNamed (ps ++ p ∷ [])
+pub named_more : (ps : List Port) (p : Port) → PortsNamed ps → IsName p.name → PortsNamed (ps ++ p ∷ [])
 named_more [] p h one = (one, tt)
 named_more (q ∷ ps) p h one = (h.0, named_more ps p h.1 one)
 
 -- one more cell that reads nets below
-cells_more : (high : ℕ) (cs : List Stored) (c : Stored) → CellsBelow high cs → ReadsBelow high c → CellsBelow high (cs ++ c ∷ [])
+pub cells_more : (high : ℕ) (cs : List Stored) (c : Stored) → CellsBelow high cs → ReadsBelow high c → CellsBelow high (cs ++ c ∷ [])
 cells_more high [] c h one = (one, tt)
 cells_more high (d ∷ cs) c h one = (h.0, cells_more high cs c h.1 one)
 
 -- one more output with nets below
-outputs_more : (high : ℕ) (ns : List (List ℕ)) (n : List ℕ) → OutputsBelow high ns → AllBelow high n → OutputsBelow high (ns ++ n ∷ [])
-outputs_more high [] n h one = (one, tt)
-outputs_more high (m ∷ ns) n h one = (h.0, outputs_more high ns n h.1 one)
+pub outputs_more_below : (high : ℕ) (ns : List (List ℕ)) (n : List ℕ) → OutputsBelow high ns → AllBelow high n → OutputsBelow high (ns ++ n ∷ [])
+outputs_more_below high [] n h one = (one, tt)
+outputs_more_below high (m ∷ ns) n h one = (h.0, outputs_more_below high ns n h.1 one)
 
 -- the number at an index is below
 pub below_next : (high : ℕ) (ns : List ℕ) (i d : ℕ) → AllBelow high (take i ns) → i < length ns → get_or ns i d < high → AllBelow high (take (i + 1) ns)
 below_next high ns i d h within one = subst (AllBelow high) (sym (take_more ns i d within)) (below_more high (take i ns) (get_or ns i d) h one)
 
--- the net of the flip-flop at an index is below
-pub flops_next : (high : ℕ) (fs : List Flop) (i : ℕ) (d : Flop) → FlopsBelow high (take i fs) → i < length fs → (get_or fs i d).net < high → FlopsBelow high (take (i + 1) fs)
-flops_next high fs i d h within one = subst (FlopsBelow high) (sym (take_more fs i d within)) (flops_more high (take i fs) (get_or fs i d) h one)
+-- the nets of the flip-flop at an index are below
+pub flops_next : (high : ℕ) (fs : List Flop) (i : ℕ) (d : Flop) → FlopsBelow high (take i fs) → i < length fs → (get_or fs i d).net < high → (get_or fs i d).enable < high
+    → FlopsBelow high (take (i + 1) fs)
+flops_next high fs i d h within one enable = subst (FlopsBelow high) (sym (take_more fs i d within)) (flops_more high (take i fs) (get_or fs i d) h one enable)
+
+-- every flip-flop has what format 2 spells
+enables_two : (fs : List Flop) → HaveEnables format.Two fs
+enables_two [] = tt
+enables_two (f ∷ fs) = (tt, enables_two fs)
+
+-- every cell has as few leaves as format 2 spells
+leaves_two : (cs : List Stored) → HaveShapes cs → HaveFewLeaves most_leaves cs
+leaves_two [] h = tt
+leaves_two (stored.Lut leaves table ∷ cs) h = (h.0.0, leaves_two cs h.1)
+leaves_two (stored.Carry a b c ∷ cs) h = (tt, leaves_two cs h.1)
+
+pub fits_two : (n : NetlistValue) → IsWellFormed n → FitsFormat format.Two n
+fits_two n h = record { enables = enables_two n.flops; leaves = leaves_two n.cells h.begun.lines.cells }
 
 -- the name of the port at an index is a name
 pub named_next : (ps : List Port) (i : ℕ) (p : Port) → PortsNamed (take i ps) → i < length ps → p ≡ get_or ps i p → IsName p.name → PortsNamed (take (i + 1) ps)
@@ -49,4 +71,4 @@ cells_next high cs i c h is one = subst (CellsBelow high) (sym (take_next cs i c
 
 -- the nets of the output at an index are below
 pub outputs_next : (high : ℕ) (ns : List (List ℕ)) (i : ℕ) (n : List ℕ) → OutputsBelow high (take i ns) → slice_get ns i ≡ Some n → AllBelow high n → OutputsBelow high (take (i + 1) ns)
-outputs_next high ns i n h is one = subst (OutputsBelow high) (sym (take_next ns i n is)) (outputs_more high (take i ns) n h one)
+outputs_next high ns i n h is one = subst (OutputsBelow high) (sym (take_next ns i n is)) (outputs_more_below high (take i ns) n h one)

@@ -1,23 +1,23 @@
 -- One line more keeps the form, and adds its spelling.
-use Rattle.std.proofs.Common.{◌≡◌, ℕ, ◌≤◌, ◌<◌, List, [], ◌∷◌, ◌++◌, length, flat_map, Bool, true, false, ◌&&◌, not, is_some, IsSome, Option, None, Some, refl, ap, sym, subst, ◌∙◌, append_assoc, append-nil}
+use Rattle.std.proofs.Common.{◌≡◌, ℕ, ◌≤◌, List, [], ◌∷◌, ◌++◌, length, flat_map, true, ◌||◌, not, is_some, IsSome, Option, None, Some, refl, ap, sym, subst, ◌∙◌, append_assoc, append-nil}
 use Rattle.std.proofs.lemmas.List.Concat.{flat_map-cons, flat_map-append}
 use Rattle.lz_base.specs.declared.name.Port.{Port}
 use Rattle.lz_base.specs.Names.{IsName}
 use Rattle.n_cells.specs.declared.netlist.Flop.{Flop}
 use Rattle.n_cells.specs.declared.netlist.Stored.{Stored}
 use Rattle.n_cells.specs.declared.netlist.Stored.TheVariants as stored
-use Rattle.n_cells.specs.Netlist.{NetlistValue, HasShape, ReadsBelow, AllBelow, HaveShapes, HaveWidths, FillOutputs, FlopsBelow, OutputsBelow, HasClock}
+use Rattle.n_cells.specs.Netlist.{NetlistValue, HasShape, HaveShapes, HaveWidths, FillOutputs, HasClock}
 use Rattle.n_cells.specs.Text.{clock_line, input_line, flop_line, cell_line, output_line, output_lines}
-use Rattle.n_text.specs.Form.{bound, HasForm, PortsNamed, CellsBelow}
+use Rattle.n_cells.specs.Form.{bound, leaves_of, HasForm, HasEnable, HasFewLeaves, HaveEnables, HaveFewLeaves}
+use Rattle.n_cells.specs.declared.format.Format.{Format}
 use Rattle.n_text.specs.declared.line.Line.{Line}
 use Rattle.n_text.specs.declared.line.Line.TheVariants as line
-use Rattle.n_text.specs.Spelling.{HasFields, key_of, may_open, line_text}
-use Rattle.n_text.specs.Raw.{bare, with_line, next_of, none, is_end, body}
-
-both : (a b : Bool) → (a && b) ≡ true → (a ≡ true) × (b ≡ true)
-both true true e = (refl, refl)
-both true false e = cc
-both false b e = cc
+use Rattle.n_text.specs.Grammar.{IsLine}
+use Rattle.n_text.specs.Keys.{key_word, none}
+use Rattle.n_text.specs.Raw.{bare, with_line, body}
+use Rattle.n_text.proofs.Forming.{named_more, flops_more, cells_more, outputs_more_below}
+use Rattle.n_text.proofs.Opening.{both, may_of, opens}
+use Rattle.n_text.proofs.Spelling.{HasFields, key_of, spelling, spelling_is, tail_in}
 
 none_is : {A : Type 0} (xs : List A) → none xs ≡ true → xs ≡ []
 none_is [] e = refl
@@ -27,21 +27,23 @@ no_clock : (c : Option (List ℕ)) → not (is_some c) ≡ true → c ≡ None
 no_clock None e = refl
 no_clock (Some c) e = cc
 
-a_clock : (c : Option (List ℕ)) → is_some c ≡ true → IsSome c
-a_clock None e = cc
-a_clock (Some c) e = refl
-
-named_more : (ps : List Port) (p : Port) → PortsNamed ps → IsName p.name → PortsNamed (ps ++ p ∷ [])
-named_more [] p h one = (one, tt)
-named_more (q ∷ qs) p h one = (h.0, named_more qs p h.1 one)
+-- flip-flops stand behind a clock, or come behind one
+clock_there : (c : Option (List ℕ)) (fs : List Flop) → HasClock c fs → (not (none fs) || is_some c) ≡ true → IsSome c
+clock_there None [] h e = cc
+clock_there (Some c) [] h e = refl
+clock_there c (f ∷ fs) h e = h
 
 widths_more : (ps : List Port) (p : Port) → HaveWidths ps → 1 ≤ p.width → p.width ≤ 128 → HaveWidths (ps ++ p ∷ [])
 widths_more [] p h low high = (low, high, tt)
 widths_more (q ∷ qs) p h low high = (h.0, h.1, widths_more qs p h.2 low high)
 
-flops_more : (high : ℕ) (fs : List Flop) (f : Flop) → FlopsBelow high fs → f.net < high → FlopsBelow high (fs ++ f ∷ [])
-flops_more high [] f h one = (one, tt)
-flops_more high (g ∷ gs) f h one = (h.0, flops_more high gs f h.1 one)
+enables_more : (format : Format) (fs : List Flop) (f : Flop) → HaveEnables format fs → HasEnable format f → HaveEnables format (fs ++ f ∷ [])
+enables_more format [] f h one = (one, tt)
+enables_more format (g ∷ gs) f h one = (h.0, enables_more format gs f h.1 one)
+
+few_more : (most : ℕ) (cs : List Stored) (c : Stored) → HaveFewLeaves most cs → HasFewLeaves most c → HaveFewLeaves most (cs ++ c ∷ [])
+few_more most [] c h one = (one, tt)
+few_more most (d ∷ ds) c h one = (h.0, few_more most ds c h.1 one)
 
 clocked_more : (clock : Option (List ℕ)) (fs : List Flop) (f : Flop) → IsSome clock → HasClock clock (fs ++ f ∷ [])
 clocked_more clock [] f h = h
@@ -55,30 +57,17 @@ shapes_more : (cs : List Stored) (c : Stored) → HaveShapes cs → HasShape c �
 shapes_more [] c h one = (one, tt)
 shapes_more (d ∷ ds) c h one = (h.0, shapes_more ds c h.1 one)
 
-cells_more : (high : ℕ) (cs : List Stored) (c : Stored) → CellsBelow high cs → ReadsBelow high c → CellsBelow high (cs ++ c ∷ [])
-cells_more high [] c h one = (one, tt)
-cells_more high (d ∷ ds) c h one = (h.0, cells_more high ds c h.1 one)
-
 fill_more : (ps : List Port) (ns : List (List ℕ)) (p : Port) (n : List ℕ) → FillOutputs ps ns → length n ≡ p.width → FillOutputs (ps ++ p ∷ []) (ns ++ n ∷ [])
 fill_more [] [] p n h one = (one, tt)
 fill_more [] (m ∷ ms) p n h one = absurd h
 fill_more (q ∷ qs) [] p n h one = absurd h
 fill_more (q ∷ qs) (m ∷ ms) p n h one = (h.0, fill_more qs ms p n h.1 one)
 
-nets_more : (high : ℕ) (ns : List (List ℕ)) (n : List ℕ) → OutputsBelow high ns → AllBelow high n → OutputsBelow high (ns ++ n ∷ [])
-nets_more high [] n h one = (one, tt)
-nets_more high (m ∷ ms) n h one = (h.0, nets_more high ms n h.1 one)
-
 -- a line that may come keeps the form
-pub form_more : (n : NetlistValue) (l : Line) → HasForm n → may_open (next_of n) (key_of l) ≡ true → HasFields l → HasForm (with_line n l)
-form_more n (line.Clock name) h may f = record {
-  lines = record {
-    inputs = h.lines.inputs;
-    clocked = clocked_first n.clock name n.flops h.lines.clocked;
-    cells = h.lines.cells;
-    widths = h.lines.widths;
-    filled = h.lines.filled;
-  };
+form_more : (format : Format) (n : NetlistValue) (l : Line) → HasForm format n → may_of n (key_of l) ≡ true → HasFields format l → HasForm format (with_line n l)
+form_more format n (line.Clock name) h may f = record {
+  lines = record { inputs = h.lines.inputs; clocked = clocked_first n.clock name n.flops h.lines.clocked; cells = h.lines.cells; widths = h.lines.widths; filled = h.lines.filled };
+  fits = record { enables = h.fits.enables; leaves = h.fits.leaves };
   name = h.name;
   clock = f;
   inputs = h.inputs;
@@ -87,14 +76,9 @@ form_more n (line.Clock name) h may f = record {
   outputs = h.outputs;
   nets = h.nets;
 }
-form_more n (line.Input p) h may f = record {
-  lines = record {
-    inputs = widths_more n.inputs p h.lines.inputs f.1 f.2;
-    clocked = h.lines.clocked;
-    cells = h.lines.cells;
-    widths = h.lines.widths;
-    filled = h.lines.filled;
-  };
+form_more format n (line.Input p) h may f = record {
+  lines = record { inputs = widths_more n.inputs p h.lines.inputs f.1 f.2; clocked = h.lines.clocked; cells = h.lines.cells; widths = h.lines.widths; filled = h.lines.filled };
+  fits = record { enables = h.fits.enables; leaves = h.fits.leaves };
   name = h.name;
   clock = h.clock;
   inputs = named_more n.inputs p h.inputs f.0;
@@ -103,55 +87,39 @@ form_more n (line.Input p) h may f = record {
   outputs = h.outputs;
   nets = h.nets;
 }
-form_more n (line.Flop g) h may f = record {
-  lines = record {
-    inputs = h.lines.inputs;
-    clocked = clocked_more n.clock n.flops g (a_clock n.clock (both (is_some n.clock) _ may).0);
-    cells = h.lines.cells;
-    widths = h.lines.widths;
-    filled = h.lines.filled;
-  };
+form_more format n (line.Flop g) h may f = record {
+  lines = record { inputs = h.lines.inputs; clocked = clocked_more n.clock n.flops g (clock_there n.clock n.flops h.lines.clocked (both _ _ may).0); cells = h.lines.cells; widths = h.lines.widths; filled = h.lines.filled };
+  fits = record { enables = enables_more format n.flops g h.fits.enables f.2; leaves = h.fits.leaves };
   name = h.name;
   clock = h.clock;
   inputs = h.inputs;
-  flops = flops_more bound n.flops g h.flops f;
+  flops = flops_more bound n.flops g h.flops f.0 f.1;
   cells = h.cells;
   outputs = h.outputs;
   nets = h.nets;
 }
-form_more n (line.Cell c) h may f = record {
-  lines = record {
-    inputs = h.lines.inputs;
-    clocked = h.lines.clocked;
-    cells = shapes_more n.cells c h.lines.cells f.0;
-    widths = h.lines.widths;
-    filled = h.lines.filled;
-  };
+form_more format n (line.Cell c) h may f = record {
+  lines = record { inputs = h.lines.inputs; clocked = h.lines.clocked; cells = shapes_more n.cells c h.lines.cells f.0; widths = h.lines.widths; filled = h.lines.filled };
+  fits = record { enables = h.fits.enables; leaves = few_more (leaves_of format) n.cells c h.fits.leaves f.1 };
   name = h.name;
   clock = h.clock;
   inputs = h.inputs;
   flops = h.flops;
-  cells = cells_more bound n.cells c h.cells f.1;
+  cells = cells_more bound n.cells c h.cells f.2;
   outputs = h.outputs;
   nets = h.nets;
 }
-form_more n (line.Output p nets) h may f = record {
-  lines = record {
-    inputs = h.lines.inputs;
-    clocked = h.lines.clocked;
-    cells = h.lines.cells;
-    widths = widths_more n.outputs p h.lines.widths (subst (λ w. 1 ≤ w) (sym f.1) f.2) (subst (λ w. w ≤ 128) (sym f.1) f.3);
-    filled = fill_more n.outputs n.nets p nets h.lines.filled (sym f.1);
-  };
+form_more format n (line.Output p nets) h may f = record {
+  lines = record { inputs = h.lines.inputs; clocked = h.lines.clocked; cells = h.lines.cells; widths = widths_more n.outputs p h.lines.widths (subst (λ w. 1 ≤ w) (sym f.1) f.2) (subst (λ w. w ≤ 128) (sym f.1) f.3); filled = fill_more n.outputs n.nets p nets h.lines.filled (sym f.1) };
+  fits = record { enables = h.fits.enables; leaves = h.fits.leaves };
   name = h.name;
   clock = h.clock;
   inputs = h.inputs;
   flops = h.flops;
   cells = h.cells;
   outputs = named_more n.outputs p h.outputs f.0;
-  nets = nets_more bound n.nets nets h.nets f.4;
+  nets = outputs_more_below bound n.nets nets h.nets f.4;
 }
-form_more n line.End h may f = h
 
 outputs_more : (ps : List Port) (ns : List (List ℕ)) (p : Port) (n : List ℕ) → FillOutputs ps ns → output_lines (ps ++ p ∷ []) (ns ++ n ∷ []) ≡ output_lines ps ns ++ output_line p n
 outputs_more [] [] p n h = append-nil (output_line p n)
@@ -162,12 +130,8 @@ outputs_more (q ∷ qs) (m ∷ ms) p n h = ap (λ l. output_line q m ++ l) (outp
 flat_more : {X : Type 0} (f : X → List ℕ) (xs : List X) (x : X) → flat_map f (xs ++ x ∷ []) ≡ flat_map f xs ++ f x
 flat_more f xs x = flat_map-append f xs (x ∷ []) ∙ ap (λ l. flat_map f xs ++ l) (flat_map-cons f x [] ∙ append-nil (f x))
 
-cell_text : (c : Stored) → cell_line c ≡ line_text (line.Cell c)
-cell_text (stored.Lut leaves table) = refl
-cell_text (stored.Carry a b c) = refl
-
-parts : Option (List ℕ) → List Port → List Flop → List Stored → List Port → List (List ℕ) → List ℕ
-parts clock ins fs cs ps ns = clock_line clock ++ flat_map input_line ins ++ flat_map flop_line fs ++ flat_map cell_line cs ++ output_lines ps ns
+parts : Format → Option (List ℕ) → List Port → List Flop → List Stored → List Port → List (List ℕ) → List ℕ
+parts format clock ins fs cs ps ns = clock_line clock ++ flat_map input_line ins ++ flat_map (flop_line format) fs ++ flat_map cell_line cs ++ output_lines ps ns
 
 cut_three : (x : List ℕ) → x ++ [] ++ [] ++ [] ≡ x
 cut_three x = append-nil (x ++ [] ++ []) ∙ append-nil (x ++ []) ∙ append-nil x
@@ -179,68 +143,89 @@ cut_two x = append-nil (x ++ []) ∙ append-nil x
 in_part : (front part more line new old : List ℕ) → more ≡ part ++ line → new ≡ front ++ more → old ≡ front ++ part → new ≡ old ++ line
 in_part front part more line new old e f g = f ∙ ap (λ l. front ++ l) e ∙ sym (append_assoc front part line) ∙ ap (λ l. l ++ line) (sym g)
 
-clock_body : (name : List ℕ) (clock : Option (List ℕ)) (ins : List Port) (fs : List Flop) (cs : List Stored) (ps : List Port) (ns : List (List ℕ)) → clock ≡ None → ins ≡ [] → fs ≡ [] → cs ≡ []
-    → ps ≡ [] → parts (Some name) ins fs cs ps ns ≡ parts clock ins fs cs ps ns ++ line_text (line.Clock name)
+clock_body : (format : Format) (name : List ℕ) (clock : Option (List ℕ)) (ins : List Port) (fs : List Flop) (cs : List Stored) (ps : List Port) (ns : List (List ℕ)) → clock ≡ None → ins ≡ [] → fs ≡ [] → cs ≡ []
+    → ps ≡ [] → parts format (Some name) ins fs cs ps ns ≡ parts format clock ins fs cs ps ns ++ spelling format (line.Clock name)
 unfolding parts
-clock_body name clock ins fs cs ps ns a b d e f = rw (a, b, d, e, f) (cut_three (clock_line (Some name) ++ []) ∙ append-nil (clock_line (Some name)))
+clock_body format name clock ins fs cs ps ns a b d e f = rw (a, b, d, e, f) (cut_three (clock_line (Some name) ++ []) ∙ append-nil (clock_line (Some name)))
 
-input_body : (clock : Option (List ℕ)) (ins : List Port) (p : Port) (fs : List Flop) (cs : List Stored) (ps : List Port) (ns : List (List ℕ)) → fs ≡ [] → cs ≡ [] → ps ≡ []
-    → parts clock (ins ++ p ∷ []) fs cs ps ns ≡ parts clock ins fs cs ps ns ++ line_text (line.Input p)
+input_body : (format : Format) (clock : Option (List ℕ)) (ins : List Port) (p : Port) (fs : List Flop) (cs : List Stored) (ps : List Port) (ns : List (List ℕ)) → fs ≡ [] → cs ≡ [] → ps ≡ []
+    → parts format clock (ins ++ p ∷ []) fs cs ps ns ≡ parts format clock ins fs cs ps ns ++ spelling format (line.Input p)
 unfolding parts
-input_body clock ins p fs cs ps ns d e f =
-    rw (d, e, f) (in_part (clock_line clock) (flat_map input_line ins) (flat_map input_line (ins ++ p ∷ [])) (line_text (line.Input p)) _ _ (flat_more input_line ins p)
+input_body format clock ins p fs cs ps ns d e f =
+    rw (d, e, f) (in_part (clock_line clock) (flat_map input_line ins) (flat_map input_line (ins ++ p ∷ [])) (spelling format (line.Input p)) _ _ (flat_more input_line ins p)
     (cut_three (clock_line clock ++ flat_map input_line (ins ++ p ∷ []))) (cut_three (clock_line clock ++ flat_map input_line ins)))
 
-flop_body : (clock : Option (List ℕ)) (ins : List Port) (fs : List Flop) (g : Flop) (cs : List Stored) (ps : List Port) (ns : List (List ℕ)) → cs ≡ [] → ps ≡ []
-    → parts clock ins (fs ++ g ∷ []) cs ps ns ≡ parts clock ins fs cs ps ns ++ line_text (line.Flop g)
+flop_body : (format : Format) (clock : Option (List ℕ)) (ins : List Port) (fs : List Flop) (g : Flop) (cs : List Stored) (ps : List Port) (ns : List (List ℕ)) → cs ≡ [] → ps ≡ []
+    → parts format clock ins (fs ++ g ∷ []) cs ps ns ≡ parts format clock ins fs cs ps ns ++ spelling format (line.Flop g)
 unfolding parts
-flop_body clock ins fs g cs ps ns e f =
-    rw (e, f) (in_part (clock_line clock ++ flat_map input_line ins) (flat_map flop_line fs) (flat_map flop_line (fs ++ g ∷ [])) (line_text (line.Flop g)) _ _ (flat_more flop_line fs g)
-    (cut_two (clock_line clock ++ flat_map input_line ins ++ flat_map flop_line (fs ++ g ∷ []))) (cut_two (clock_line clock ++ flat_map input_line ins ++ flat_map flop_line fs)))
+flop_body format clock ins fs g cs ps ns e f =
+    rw (e, f) (in_part (clock_line clock ++ flat_map input_line ins) (flat_map (flop_line format) fs) (flat_map (flop_line format) (fs ++ g ∷ [])) (spelling format (line.Flop g)) _ _ (flat_more (flop_line format) fs g)
+    (cut_two (clock_line clock ++ flat_map input_line ins ++ flat_map (flop_line format) (fs ++ g ∷ []))) (cut_two (clock_line clock ++ flat_map input_line ins ++ flat_map (flop_line format) fs)))
 
-cell_body : (clock : Option (List ℕ)) (ins : List Port) (fs : List Flop) (cs : List Stored) (c : Stored) (ps : List Port) (ns : List (List ℕ)) → ps ≡ []
-    → parts clock ins fs (cs ++ c ∷ []) ps ns ≡ parts clock ins fs cs ps ns ++ line_text (line.Cell c)
+cell_body : (format : Format) (clock : Option (List ℕ)) (ins : List Port) (fs : List Flop) (cs : List Stored) (c : Stored) (ps : List Port) (ns : List (List ℕ)) → ps ≡ []
+    → parts format clock ins fs (cs ++ c ∷ []) ps ns ≡ parts format clock ins fs cs ps ns ++ spelling format (line.Cell c)
 unfolding parts
-cell_body clock ins fs cs c ps ns f =
-    rw f (in_part (clock_line clock ++ flat_map input_line ins ++ flat_map flop_line fs) (flat_map cell_line cs) (flat_map cell_line (cs ++ c ∷ [])) (line_text (line.Cell c)) _ _
-    (flat_more cell_line cs c ∙ ap (λ l. flat_map cell_line cs ++ l) (cell_text c))
-    (append-nil (clock_line clock ++ flat_map input_line ins ++ flat_map flop_line fs ++ flat_map cell_line (cs ++ c ∷ [])))
-    (append-nil (clock_line clock ++ flat_map input_line ins ++ flat_map flop_line fs ++ flat_map cell_line cs)))
+cell_body format clock ins fs cs c ps ns f =
+    rw f (in_part (clock_line clock ++ flat_map input_line ins ++ flat_map (flop_line format) fs) (flat_map cell_line cs) (flat_map cell_line (cs ++ c ∷ [])) (spelling format (line.Cell c)) _ _
+    (flat_more cell_line cs c)
+    (append-nil (clock_line clock ++ flat_map input_line ins ++ flat_map (flop_line format) fs ++ flat_map cell_line (cs ++ c ∷ [])))
+    (append-nil (clock_line clock ++ flat_map input_line ins ++ flat_map (flop_line format) fs ++ flat_map cell_line cs)))
 
 -- a line that may come adds its spelling
-pub body_more : (n : NetlistValue) (l : Line) → HasForm n → may_open (next_of n) (key_of l) ≡ true → is_end l ≡ false → body (with_line n l) ≡ body n ++ line_text l
+body_more : (format : Format) (n : NetlistValue) (l : Line) → HasForm format n → may_of n (key_of l) ≡ true → body format (with_line n l) ≡ body format n ++ spelling format l
 unfolding parts
-body_more n (line.Clock name) h may last =
+body_more format n (line.Clock name) h may =
     let a = both (not (is_some n.clock)) _ may in
     let b = both (none n.inputs) _ a.1 in
     let d = both (none n.flops) _ b.1 in
     let e = both (none n.cells) _ d.1 in
-    clock_body name n.clock n.inputs n.flops n.cells n.outputs n.nets (no_clock n.clock a.0) (none_is n.inputs b.0) (none_is n.flops d.0) (none_is n.cells e.0) (none_is n.outputs e.1)
-body_more n (line.Input p) h may last =
+    clock_body format name n.clock n.inputs n.flops n.cells n.outputs n.nets (no_clock n.clock a.0) (none_is n.inputs b.0) (none_is n.flops d.0) (none_is n.cells e.0) (none_is n.outputs e.1)
+body_more format n (line.Input p) h may =
     let d = both (none n.flops) _ may in
     let e = both (none n.cells) _ d.1 in
-    input_body n.clock n.inputs p n.flops n.cells n.outputs n.nets (none_is n.flops d.0) (none_is n.cells e.0) (none_is n.outputs e.1)
-body_more n (line.Flop g) h may last =
-    let d = both (is_some n.clock) _ may in
+    input_body format n.clock n.inputs p n.flops n.cells n.outputs n.nets (none_is n.flops d.0) (none_is n.cells e.0) (none_is n.outputs e.1)
+body_more format n (line.Flop g) h may =
+    let d = both (not (none n.flops) || is_some n.clock) _ may in
     let e = both (none n.cells) _ d.1 in
-    flop_body n.clock n.inputs n.flops g n.cells n.outputs n.nets (none_is n.cells e.0) (none_is n.outputs e.1)
-body_more n (line.Cell (stored.Lut leaves table)) h may last = cell_body n.clock n.inputs n.flops n.cells (stored.Lut leaves table) n.outputs n.nets (none_is n.outputs may)
-body_more n (line.Cell (stored.Carry a b c)) h may last = cell_body n.clock n.inputs n.flops n.cells (stored.Carry a b c) n.outputs n.nets (none_is n.outputs may)
-body_more n (line.Output p nets) h may last =
-    let front = clock_line n.clock ++ flat_map input_line n.inputs ++ flat_map flop_line n.flops ++ flat_map cell_line n.cells in
+    flop_body format n.clock n.inputs n.flops g n.cells n.outputs n.nets (none_is n.cells e.0) (none_is n.outputs e.1)
+body_more format n (line.Cell (stored.Lut leaves table)) h may = cell_body format n.clock n.inputs n.flops n.cells (stored.Lut leaves table) n.outputs n.nets (none_is n.outputs may)
+body_more format n (line.Cell (stored.Carry a b c)) h may = cell_body format n.clock n.inputs n.flops n.cells (stored.Carry a b c) n.outputs n.nets (none_is n.outputs may)
+body_more format n (line.Output p nets) h may =
+    let front = clock_line n.clock ++ flat_map input_line n.inputs ++ flat_map (flop_line format) n.flops ++ flat_map cell_line n.cells in
     ap (λ l. front ++ l) (outputs_more n.outputs n.nets p nets h.lines.filled) ∙ sym (append_assoc front (output_lines n.outputs n.nets) (output_line p nets))
-body_more n line.End h may last = cc
-
--- no line but the model's
-pub bare_form : (name : List ℕ) → IsName name → HasForm (bare name)
-bare_form name h =
-    record { lines = record { inputs = tt; clocked = tt; cells = tt; widths = tt; filled = tt }; name = h; clock = tt; inputs = tt; flops = tt; cells = tt; outputs = tt; nets = tt }
 
 -- a line keeps the model's name
-pub same_name : (n : NetlistValue) (l : Line) → (with_line n l).name ≡ n.name
+same_name : (n : NetlistValue) (l : Line) → (with_line n l).name ≡ n.name
 same_name n (line.Clock name) = refl
 same_name n (line.Input p) = refl
 same_name n (line.Flop f) = refl
 same_name n (line.Cell c) = refl
 same_name n (line.Output p nets) = refl
-same_name n line.End = refl
+
+pub record Grows (format : Format) (n : NetlistValue) (l : Line) (text : List ℕ) : Type 0 where
+  pub form : HasForm format (with_line n l)
+  pub spelled : body format (with_line n l) ≡ body format n ++ text
+  pub name : (with_line n l).name ≡ n.name
+
+-- a line of the grammar keeps the form, and adds its spelling
+pub grows : (format : Format) (n : NetlistValue) (l : Line) (text : List ℕ) → HasForm format n → IsLine format n l text → Grows format n l text
+grows format n l text h (k, front, back, iskey, tail, e) =
+    let s = tail_in format k l back tail in
+    let o = opens n k front iskey in
+    let may : may_of n (key_of l) ≡ true = ap (may_of n) s.kind ∙ o.0 in
+    let spelled : text ≡ spelling format l = e ∙ (λ i. (o.1 ∙ ap key_word (sym s.kind)) i ++ s.spelled i) ∙ spelling_is format l in
+    record { form = form_more format n l h may s.fields; spelled = body_more format n l h may ∙ ap (λ x. body format n ++ x) (sym spelled); name = same_name n l }
+
+-- no line but the model's
+pub bare_form : (format : Format) (name : List ℕ) → IsName name → HasForm format (bare name)
+bare_form format name h = record {
+  lines = record { inputs = tt; clocked = tt; cells = tt; widths = tt; filled = tt };
+  fits = record { enables = tt; leaves = tt };
+  name = h;
+  clock = tt;
+  inputs = tt;
+  flops = tt;
+  cells = tt;
+  outputs = tt;
+  nets = tt;
+}

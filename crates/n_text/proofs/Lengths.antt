@@ -1,15 +1,12 @@
 -- How long fields are.
-use Rattle.std.proofs.Common.{◌≡◌, ℕ, zero, suc, ◌+◌, ◌/◌, ◌%◌, ◌<◌, ◌≤◌, ◌^◌, List, [], ◌∷◌, ◌++◌, length, flat_map, drop, Bool, true, false, arith, refl, ap, sym, ◌∙◌}
+use Rattle.std.proofs.Common.{◌≡◌, ℕ, zero, suc, ◌+◌, ◌/◌, ◌%◌, ◌<◌, ◌≤◌, ◌^◌, List, [], ◌∷◌, ◌++◌, length, flat_map, arith, refl, ap, sym, ◌∙◌}
 use Rattle.std.proofs.lemmas.Fmt.{decimal_step_wide, decimal_digit, length-decimal-le_wide}
 use Rattle.std.proofs.lemmas.List.{length-append}
 use Rattle.std.specs.Fmt.{decimal}
-use Rattle.std.proofs.lemmas.List.Concat.{flat_map-cons}
 use Rattle.lz_lines.specs.Fields.{number, field, hex, hex_digits, hex_digit}
-use Rattle.n_cells.specs.declared.netlist.Flop.{Flop}
 use Rattle.n_cells.specs.declared.netlist.Stored.TheVariants as stored
-use Rattle.n_cells.specs.Text.{cell_line, flop_line, bit_digit}
+use Rattle.n_cells.specs.Text.{cell_line}
 use Rattle.n_text.specs.Referred.{wrong_nets, wrong_cell}
-use Rattle.std.specs.Prelude.{codes}
 
 pub number_short : (n : ℕ) → n < 2 ^ 128 → length (number n) ≤ 40
 number_short n h = let few : length (decimal n) ≤ 39 = length-decimal-le_wide 39 n (omega arith) (omega arith) (omega arith) in omega (arith, few)
@@ -35,18 +32,6 @@ lut_length leaves table =
     let f = length-append (a ++ b) (field d) in
     let g = length-append a b in
     omega (arith, e, f, g, hex_length ((2 ^ length leaves + 3) / 4) table)
-
-flop_least : (f : Flop) → 5 ≤ length (flop_line f)
-flop_least f = at f.first
-  where
-    at : (b : Bool) → 5 ≤ length (codes "ff" ++ bit_digit b ++ number f.net ++ 10 ∷ [])
-    at false = omega arith
-    at true = omega arith
-
-pub flops_room : (fs : List Flop) (i : ℕ) → i < length fs → 5 ≤ length (flat_map flop_line (drop i fs))
-flops_room [] i h = absurd (omega arith)
-flops_room (f ∷ fs) zero h = let e = ap (λ (l : List ℕ). length l) (flat_map-cons flop_line f fs) ∙ length-append (flop_line f) (flat_map flop_line fs) in omega (arith, e, flop_least f)
-flops_room (f ∷ fs) (suc i) h = flops_room fs i (omega arith)
 
 -- a table's line is judged by its leaves
 pub lut_judged : (next place behind digits count : ℕ) (leaves : List ℕ) (table : ℕ) → count ≡ length (number (length leaves)) → digits ≡ (2 ^ length leaves + 3) / 4

@@ -1,12 +1,14 @@
 pub mod Adding
 pub mod Forming
-pub mod Nets
-pub mod LineKinds
-pub mod Sections
+pub mod Opening
+pub mod Spelling
 pub mod Growing
+pub mod Sections
+pub mod Parts
 pub mod Wholes
 pub mod Lengths
 pub mod MetNames
 pub mod Referring
 pub mod Filling
 pub mod Faulting
+pub mod Texts

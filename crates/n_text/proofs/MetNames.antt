@@ -1,10 +1,6 @@
--- A set of names with one more.
-use Rattle.std.proofs.Common.{◌≡◌, ◌+◌, ℕ, Bool, true, false, cond, List, [], ◌∷◌, ◌++◌, length, drop, map, flat_map, slice_get, Some, Result, Err, refl, sym, ap, arith, subst, ◌∙◌, Bor, append_assoc}
-use Rattle.std.specs.Prelude.{◌||◌, bytes_eq}
-use Rattle.std.specs.Ordering.{nat_cmp, is_eq}
-use Rattle.std.specs.Cmp.Lexicographic.{slice_cmp}
-use Rattle.std.specs.BTreeSet.{BTreeSet, Updates}
-use Rattle.std.proofs.lemmas.Map.Text.{is_eq-slice_cmp}
+-- Names met so far, line by line.
+use Rattle.std.proofs.Common.{◌≡◌, ◌+◌, ℕ, List, [], ◌∷◌, ◌++◌, length, drop, map, flat_map, slice_get, Some, Result, Err, refl, sym, ap, arith, subst, ◌∙◌, Bor, append_assoc}
+use Rattle.std.specs.BTreeSet.{BTreeSet}
 use Rattle.std.proofs.lemmas.List.{length-append}
 use Rattle.std.proofs.lemmas.List.Concat.{flat_map-cons}
 use Rattle.lz_base.specs.declared.fault.Stop.{Stop}
@@ -15,27 +11,8 @@ use Rattle.n_text.proofs.Adding.{drop_next}
 use Rattle.lz_base.specs.declared.name.Port.{Port}
 use Rattle.lz_lines.specs.Fields.{field}
 use Rattle.n_cells.specs.Text.{input_line, output_line}
-use Rattle.n_text.specs.Met.{Met}
-use Rattle.n_text.specs.Referred.{is_among, wrong_name, wrong_nets, wrong_inputs, wrong_outputs}
-
-swap : (a b c : Bool) → (a || (b || c)) ≡ (b || (a || c))
-swap true true c = refl
-swap true false c = refl
-swap false b c = refl
-
-among_push : (q key : List ℕ) (names : List (List ℕ)) → is_among q (names ++ key ∷ []) ≡ (bytes_eq key q || is_among q names)
-among_push q key [] = refl
-among_push q key (other ∷ names) = ap (λ b. bytes_eq other q || b) (among_push q key names) ∙ swap (bytes_eq other q) (bytes_eq key q) (is_among q names)
-
-cond_or : (t w : Bool) → cond t true w ≡ (t || w)
-cond_or true w = refl
-cond_or false w = refl
-
-pub met_push : (old new : BTreeSet (Bor (List ℕ))) (key : Bor (List ℕ)) (names : List (List ℕ)) → Updates (λ x y. slice_cmp nat_cmp x.now y.now) old new key true → Met old names
-    → Met new (names ++ key.now ∷ [])
-met_push old new key names updates met q =
-    updates.0 q ∙ ap (λ w. cond (is_eq (slice_cmp nat_cmp key.now q.now)) true w) (met q) ∙ ap (λ t. cond t true (is_among q.now names)) (is_eq-slice_cmp key.now q.now)
-    ∙ cond_or (bytes_eq key.now q.now) (is_among q.now names) ∙ sym (among_push q.now key.now names)
+use Rattle.lz_base.specs.Met.{Met}
+use Rattle.n_text.specs.Referred.{wrong_name, wrong_nets, wrong_inputs, wrong_outputs}
 
 -- These names were met before the ports that are left.
 pub record NamesGo (met : BTreeSet (Bor (List ℕ))) (place : ℕ) (left : List Port) (names : List (List ℕ)) (start : ℕ) (ports : List Port) : Type 0 where

@@ -1,19 +1,21 @@
 -- A netlist with the form is well formed exactly where no reference is wrong.
-use Rattle.std.proofs.Common.{Option, None, Some, ◌≡◌, ◌≢◌, ℕ, ◌+◌, ◌<◌, List, [], ◌∷◌, ◌++◌, length, map, Bool, true, false, cond, refl, arith, ap, sym, subst, ◌∙◌, append_assoc, append-nil, lt-ltb}
+use Rattle.std.proofs.Common.{Option, None, Some, ◌≡◌, ◌≢◌, ℕ, ◌+◌, ◌<◌, ◌≤◌, List, [], ◌∷◌, ◌++◌, length, map, Bool, true, false, cond, refl, arith, ap, sym, subst, ◌∙◌, append_assoc, append-nil, lt-ltb}
 use Rattle.std.specs.Prelude.{◌||◌, bytes_eq, nat_lt}
 use Rattle.std.specs.Option.{option_to_list}
 use Rattle.std.proofs.lemmas.Bool.Decides.{nat_tests}
 use Rattle.std.proofs.lemmas.Slice.Eq.{bytes_eq-Decides}
 use Rattle.lz_base.specs.declared.name.Port.{Port}
-use Rattle.lz_base.specs.Names.{IsNew, AreDistinct}
+use Rattle.lz_base.specs.Names.{IsNew, AreDistinct, is_among}
 use Rattle.lz_lines.specs.Fields.{field, number}
 use Rattle.n_cells.specs.declared.netlist.Flop.{Flop}
 use Rattle.n_cells.specs.declared.netlist.Stored.{Stored}
 use Rattle.n_cells.specs.declared.netlist.Stored.TheVariants as stored
 use Rattle.n_cells.specs.Netlist.{NetlistValue, net_count, first_net, nets_of, AllBelow, ReadsBelow, ReadBackwards, FlopsBelow, OutputsBelow, FillOutputs, IsWellFormed}
 use Rattle.n_cells.specs.Text.{input_line, flop_line, cell_line, output_line}
-use Rattle.n_text.specs.Form.{HasForm}
-use Rattle.n_text.specs.Referred.{wrong_nets, is_among, wrong_name, wrong_inputs, wrong_flops, wrong_cell, wrong_cells, wrong_outputs, wrong_places, inputs_at, flops_at, cells_at, outputs_at}
+use Rattle.n_cells.specs.declared.format.Format.{Format}
+use Rattle.n_cells.specs.declared.format.Format.TheVariants as format_
+use Rattle.n_cells.specs.Form.{HasForm, HaveEnables}
+use Rattle.n_text.specs.Referred.{flop_nets, wrong_nets, wrong_name, wrong_inputs, wrong_flops, wrong_cell, wrong_cells, wrong_outputs, wrong_places, inputs_at, flops_at, cells_at, outputs_at}
 
 empty_front : (a b : List ℕ) → a ++ b ≡ [] → (a ≡ []) × (b ≡ [])
 empty_front [] b e = (refl, e)
@@ -36,15 +38,24 @@ nets_none : (high place : ℕ) (ns : List ℕ) → AllBelow high ns → wrong_ne
 nets_none high place [] h = refl
 nets_none high place (n ∷ ns) h = rw (lt-ltb n high h.0) (nets_none high (place + length (number n)) ns h.1)
 
-flops_right : (count place : ℕ) (fs : List Flop) → wrong_flops count place fs ≡ [] → FlopsBelow count fs
-flops_right count place [] e = tt
-flops_right count place (f ∷ fs) e =
+flops_right : (format : Format) (count place : ℕ) (fs : List Flop) → 2 ≤ count → HaveEnables format fs → wrong_flops format count place fs ≡ [] → FlopsBelow count fs
+flops_right format count place [] some enables e = tt
+flops_right format_.One count place (f ∷ fs) some enables e =
     let p = empty_front (wrong_nets count (place + 4) (f.net ∷ [])) _ e in
-    ((nets_right count (place + 4) (f.net ∷ []) p.0).0, flops_right count (place + length (flop_line f)) fs p.1)
+    ((nets_right count (place + 4) (f.net ∷ []) p.0).0, omega (arith, enables.0), flops_right format_.One count (place + length (flop_line format_.One f)) fs some enables.1 p.1)
+flops_right format_.Two count place (f ∷ fs) some enables e =
+    let p = empty_front (wrong_nets count (place + 4) (f.net ∷ f.enable ∷ [])) _ e in
+    let h = nets_right count (place + 4) (f.net ∷ f.enable ∷ []) p.0 in
+    (h.0, h.1.0, flops_right format_.Two count (place + length (flop_line format_.Two f)) fs some enables.1 p.1)
 
-flops_none : (count place : ℕ) (fs : List Flop) → FlopsBelow count fs → wrong_flops count place fs ≡ []
-flops_none count place [] h = refl
-flops_none count place (f ∷ fs) h = ap (λ l. l ++ wrong_flops count (place + length (flop_line f)) fs) (nets_none count (place + 4) (f.net ∷ []) (h.0, tt)) ∙ flops_none count (place + length (flop_line f)) fs h.1
+flop_none : (format : Format) (count place : ℕ) (f : Flop) → f.net < count → f.enable < count → wrong_nets count place (flop_nets format f) ≡ []
+flop_none format_.One count place f net enable = nets_none count place (f.net ∷ []) (net, tt)
+flop_none format_.Two count place f net enable = nets_none count place (f.net ∷ f.enable ∷ []) (net, (enable, tt))
+
+flops_none : (format : Format) (count place : ℕ) (fs : List Flop) → FlopsBelow count fs → wrong_flops format count place fs ≡ []
+flops_none format count place [] h = refl
+flops_none format count place (f ∷ fs) h =
+    ap (λ l. l ++ wrong_flops format count (place + length (flop_line format f)) fs) (flop_none format count (place + 4) f h.0 h.1) ∙ flops_none format count (place + length (flop_line format f)) fs h.2
 
 cell_right : (next place : ℕ) (c : Stored) → wrong_cell next place c ≡ [] → ReadsBelow next c
 cell_right next place (stored.Lut leaves table) e = nets_right next _ leaves e
@@ -149,29 +160,29 @@ clock_distinct None = tt
 clock_distinct (Some c) = (tt, tt)
 
 -- no reference is wrong, so the netlist is well formed
-pub well_formed : (n : NetlistValue) → HasForm n → wrong_places n ≡ [] → IsWellFormed n
-well_formed n h e =
-    let i = wrong_inputs (option_to_list n.clock) (inputs_at n) n.inputs in
-    let f = wrong_flops (net_count n) (flops_at n) n.flops in
-    let c = wrong_cells (first_net n.inputs n.flops) (cells_at n) n.cells in
+pub well_formed : (format : Format) (n : NetlistValue) → HasForm format n → wrong_places format n ≡ [] → IsWellFormed n
+well_formed format n h e =
+    let i = wrong_inputs (option_to_list n.clock) (inputs_at format n) n.inputs in
+    let f = wrong_flops format (net_count n) (flops_at format n) n.flops in
+    let c = wrong_cells (first_net n.inputs n.flops) (cells_at format n) n.cells in
     let all_ = empty_front (i ++ f ++ c) _ e in
     let three = empty_front (i ++ f) c all_.0 in
     let two = empty_front i f three.0 in
-    let inputs = inputs_right (option_to_list n.clock) (inputs_at n) n.inputs (clock_distinct n.clock) two.0 in
-    let outputs = outputs_right (option_to_list n.clock ++ map (λ p. p.name) n.inputs) (net_count n) (outputs_at n) n.outputs n.nets h.lines.filled inputs all_.1 in
+    let inputs = inputs_right (option_to_list n.clock) (inputs_at format n) n.inputs (clock_distinct n.clock) two.0 in
+    let outputs = outputs_right (option_to_list n.clock ++ map (λ p. p.name) n.inputs) (net_count n) (outputs_at format n) n.outputs n.nets h.lines.filled inputs all_.1 in
     record {
       begun = record { lines = h.lines; names = outputs.0; cells = cells_right _ _ n.cells three.1; outputs = outputs.1 };
-      flops = flops_right _ _ n.flops two.1;
+      flops = flops_right format _ _ n.flops (omega arith) h.fits.enables two.1;
     }
 
 -- the netlist is well formed, so no reference is wrong
-pub none_wrong : (n : NetlistValue) → IsWellFormed n → wrong_places n ≡ []
-none_wrong n h =
+pub none_wrong : (format : Format) (n : NetlistValue) → IsWellFormed n → wrong_places format n ≡ []
+none_wrong format n h =
     let names = option_to_list n.clock in
     let ins = map (λ (p : Port). p.name) n.inputs in
     let outs = map (λ (p : Port). p.name) n.outputs in
-    let i = inputs_none names (inputs_at n) n.inputs outs (subst AreDistinct (append_assoc names ins outs) h.begun.names) in
-    let f = flops_none (net_count n) (flops_at n) n.flops h.flops in
-    let c = cells_none (first_net n.inputs n.flops) (cells_at n) n.cells h.begun.cells in
-    let o = outputs_none (names ++ ins) (net_count n) (outputs_at n) n.outputs n.nets h.begun.names h.begun.outputs in
+    let i = inputs_none names (inputs_at format n) n.inputs outs (subst AreDistinct (append_assoc names ins outs) h.begun.names) in
+    let f = flops_none format (net_count n) (flops_at format n) n.flops h.flops in
+    let c = cells_none (first_net n.inputs n.flops) (cells_at format n) n.cells h.begun.cells in
+    let o = outputs_none (names ++ ins) (net_count n) (outputs_at format n) n.outputs n.nets h.begun.names h.begun.outputs in
     rw (i, f, c, o) refl

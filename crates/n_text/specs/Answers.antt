@@ -1,12 +1,14 @@
--- What the reader of netlists answers.
-use Rattle.std.specs.Prelude.{◌≡◌, ℕ, ◌≤◌, List, [], ◌∷◌, length, Result, Ok, Err, ⊤, ◌⊎◌}
+-- What the readers of netlists answer.
+use Rattle.std.specs.Prelude.{◌≡◌, ℕ, List, ◌∷◌, [], Result, Ok, Err, ⊤, ◌⊎◌}
 use Rattle.lz_base.specs.declared.rule.Rule.TheVariants.{N1, N2}
 use Rattle.lz_base.specs.declared.fault.Fault.{Fault as Fault_}
 use Rattle.lz_base.specs.declared.fault.Stop.{Stop}
 use Rattle.lz_base.specs.declared.fault.Stop.TheVariants.{Fault, OutOfMemory}
+use Rattle.lz_lines.specs.Places.{IsUnreadable}
+use Rattle.n_cells.specs.declared.format.Format.{Format}
+use Rattle.n_cells.specs.Form.{HasForm}
 use Rattle.n_cells.specs.Netlist.{NetlistValue}
 use Rattle.n_cells.specs.Text.{text}
-use Rattle.n_text.specs.Form.{HasForm}
 use Rattle.n_text.specs.Referred.{wrong_places}
 
 -- The places are those of references that are judged up to here: none is wrong, or the fault is at the first.
@@ -20,36 +22,24 @@ abbrev pub IsWrong : List ℕ → Stop → Type 0
 IsWrong places (Fault f) = (f.rule ≡ N2) × (more : List ℕ) × (places ≡ f.at ∷ more)
 IsWrong places OutOfMemory = ⊤
 
--- memory was wanted
-abbrev pub IsWant : Stop → Type 0
-IsWant (Fault f) = ⊥
-IsWant OutOfMemory = ⊤
-
--- want of memory aside, the answer is this netlist
-abbrev pub Answers : {X : Type 0} → (X → NetlistValue) → Result X Stop → NetlistValue → Type 0
-Answers value (Ok x) n = value x ≡ n
-Answers value (Err e) n = IsWant e
+-- the text of a netlist, whatever its references
+abbrev pub IsText : Format → NetlistValue → List ℕ → Type 0
+IsText format n bytes = HasForm format n × (bytes ≡ text format n)
 
 -- These bytes are the text of this netlist, whatever its references, and of no other.
-pub record IsTextOf (bytes : List ℕ) (n : NetlistValue) : Type 0 where
-  pub form : HasForm n
-  pub spelled : bytes ≡ text n
-  pub alone : (m : NetlistValue) → HasForm m → bytes ≡ text m → m ≡ n
-
--- No netlist has such a text, whatever its references.
-pub record IsUnreadable (bytes : List ℕ) (f : Fault_) : Type 0 where
-  pub rule : f.rule ≡ N1
-  pub within : f.at ≤ length bytes
-  pub none : (n : NetlistValue) → HasForm n → bytes ≡ text n → ⊥
+pub record IsTextOf (format : Format) (bytes : List ℕ) (n : NetlistValue) : Type 0 where
+  pub form : HasForm format n
+  pub spelled : bytes ≡ text format n
+  pub alone : (m : NetlistValue) → HasForm format m → bytes ≡ text format m → m ≡ n
 
 -- One netlist has this text, and the place is that of its first wrong reference.
-pub record IsWrongAt (bytes : List ℕ) (f : Fault_) : Type 0 where
+pub record IsWrongAt (format : Format) (bytes : List ℕ) (f : Fault_) : Type 0 where
   pub rule : f.rule ≡ N2
   pub netlist : NetlistValue
-  pub is : IsTextOf bytes netlist
+  pub is : IsTextOf format bytes netlist
   pub more : List ℕ
-  pub first : wrong_places netlist ≡ f.at ∷ more
+  pub first : wrong_places format netlist ≡ f.at ∷ more
 
-abbrev pub IsRefusal : List ℕ → Stop → Type 0
-IsRefusal bytes (Fault f) = IsUnreadable bytes f ⊎ IsWrongAt bytes f
-IsRefusal bytes OutOfMemory = ⊤
+-- the bytes leave the texts of all netlists at the place, or they are such a text, and the place is of a wrong reference
+abbrev pub IsRefusal : Format → List ℕ → Fault_ → Type 0
+IsRefusal format bytes f = IsUnreadable (IsText format) N1 bytes f ⊎ IsWrongAt format bytes f

@@ -1,8 +1,7 @@
-pub mod Form
-pub mod Cells
-pub mod Spelling
-pub mod Nets
 pub mod Raw
+pub mod Parts
+pub mod Cells
+pub mod Keys
+pub mod Grammar
 pub mod Referred
 pub mod Answers
-pub mod Met

@@ -1,9 +1,12 @@
 -- Where a netlist's text breaks the rule on references: the places of its wrong numbers and repeated names, in the order
 -- of the text. A place is counted in bytes, from 0.
-use Rattle.std.specs.Prelude.{ℕ, ◌+◌, List, [], ◌∷◌, ◌++◌, length, map, flat_map, Bool, false, ◌||◌, nat_lt, bytes_eq, if◌then◌else◌}
+use Rattle.std.specs.Prelude.{ℕ, ◌+◌, List, [], ◌∷◌, ◌++◌, length, map, flat_map, nat_lt, if◌then◌else◌}
 use Rattle.std.specs.Option.{option_to_list}
 use Rattle.lz_base.specs.declared.name.Port.{Port}
+use Rattle.lz_base.specs.Names.{is_among}
 use Rattle.lz_lines.specs.Fields.{field, number}
+use Rattle.n_cells.specs.declared.format.Format.{Format}
+use Rattle.n_cells.specs.declared.format.Format.TheVariants.{One, Two}
 use Rattle.n_cells.specs.declared.netlist.Flop.{Flop}
 use Rattle.n_cells.specs.declared.netlist.Stored.{Stored}
 use Rattle.n_cells.specs.declared.netlist.Stored.TheVariants.{Lut, Carry}
@@ -16,11 +19,6 @@ abbrev pub wrong_nets : ℕ → ℕ → List ℕ → List ℕ
 wrong_nets high at_ [] = []
 wrong_nets high at_ (n ∷ ns) = (if nat_lt n high then [] else (at_ + 1) ∷ []) ++ wrong_nets high (at_ + length (number n)) ns
 
--- a name that is one of these
-abbrev pub is_among : List ℕ → List (List ℕ) → Bool
-is_among name [] = false
-is_among name (other ∷ names) = bytes_eq other name || is_among name names
-
 -- the place of a name that stands behind these, where it is one of them
 abbrev pub wrong_name : List (List ℕ) → ℕ → List ℕ → List ℕ
 wrong_name names at_ name = if is_among name names then at_ ∷ [] else []
@@ -30,10 +28,15 @@ abbrev pub wrong_inputs : List (List ℕ) → ℕ → List Port → List ℕ
 wrong_inputs names at_ [] = []
 wrong_inputs names at_ (p ∷ ps) = wrong_name names (at_ + 6) p.name ++ wrong_inputs (names ++ p.name ∷ []) (at_ + length (input_line p)) ps
 
--- Lines of flip-flops: the net stands behind `ff` and a bit, and is one of so many.
-abbrev pub wrong_flops : ℕ → ℕ → List Flop → List ℕ
-wrong_flops count at_ [] = []
-wrong_flops count at_ (f ∷ fs) = wrong_nets count (at_ + 4) (f.net ∷ []) ++ wrong_flops count (at_ + length (flop_line f)) fs
+-- the nets that a flip-flop's line names: the one that it takes, and in format 2 its enable
+abbrev pub flop_nets : Format → Flop → List ℕ
+flop_nets One f = f.net ∷ []
+flop_nets Two f = f.net ∷ f.enable ∷ []
+
+-- Lines of flip-flops: the nets stand behind `ff` and a bit, and each is one of so many.
+abbrev pub wrong_flops : Format → ℕ → ℕ → List Flop → List ℕ
+wrong_flops format count at_ [] = []
+wrong_flops format count at_ (f ∷ fs) = wrong_nets count (at_ + 4) (flop_nets format f) ++ wrong_flops format count (at_ + length (flop_line format f)) fs
 
 -- The line of a cell whose first net has this number: each net that it reads is smaller.
 abbrev pub wrong_cell : ℕ → ℕ → Stored → List ℕ
@@ -53,22 +56,22 @@ wrong_outputs names count at_ (p ∷ ps) (ns ∷ more) =
     ++ wrong_outputs (names ++ p.name ∷ []) count (at_ + length (output_line p ns)) ps more
 
 -- the places at which the lines of each kind begin
-abbrev pub inputs_at : NetlistValue → ℕ
-inputs_at n = length (model_line n.name) + length (clock_line n.clock)
+abbrev pub inputs_at : Format → NetlistValue → ℕ
+inputs_at format n = length (model_line format n.name) + length (clock_line n.clock)
 
-abbrev pub flops_at : NetlistValue → ℕ
-flops_at n = inputs_at n + length (flat_map input_line n.inputs)
+abbrev pub flops_at : Format → NetlistValue → ℕ
+flops_at format n = inputs_at format n + length (flat_map input_line n.inputs)
 
-abbrev pub cells_at : NetlistValue → ℕ
-cells_at n = flops_at n + length (flat_map flop_line n.flops)
+abbrev pub cells_at : Format → NetlistValue → ℕ
+cells_at format n = flops_at format n + length (flat_map (flop_line format) n.flops)
 
-abbrev pub outputs_at : NetlistValue → ℕ
-outputs_at n = cells_at n + length (flat_map cell_line n.cells)
+abbrev pub outputs_at : Format → NetlistValue → ℕ
+outputs_at format n = cells_at format n + length (flat_map cell_line n.cells)
 
 -- all wrong numbers and repeated names
-abbrev pub wrong_places : NetlistValue → List ℕ
-wrong_places n =
-    wrong_inputs (option_to_list n.clock) (inputs_at n) n.inputs
-    ++ wrong_flops (net_count n) (flops_at n) n.flops
-    ++ wrong_cells (first_net n.inputs n.flops) (cells_at n) n.cells
-    ++ wrong_outputs (option_to_list n.clock ++ map (λ p. p.name) n.inputs) (net_count n) (outputs_at n) n.outputs n.nets
+abbrev pub wrong_places : Format → NetlistValue → List ℕ
+wrong_places format n =
+    wrong_inputs (option_to_list n.clock) (inputs_at format n) n.inputs
+    ++ wrong_flops format (net_count n) (flops_at format n) n.flops
+    ++ wrong_cells (first_net n.inputs n.flops) (cells_at format n) n.cells
+    ++ wrong_outputs (option_to_list n.clock ++ map (λ p. p.name) n.inputs) (net_count n) (outputs_at format n) n.outputs n.nets

@@ -1,12 +1,13 @@
-ghost use Rattle.std.specs.Prelude.{◌≡◌, ◌≤◌, ◌<◌, ◌+◌, ◌*◌, length};
-ghost use Rattle.n_cells.specs.Netlist.{HaveWidths, port_bits, cell_nets};
+ghost use Rattle.std.specs.Prelude.{◌≡◌, ◌≤◌, ◌<◌, ◌+◌, ◌*◌, ◌^◌, length};
+ghost use Rattle.n_cells.specs.Netlist.{HaveWidths, port_bits, first_net, cell_nets};
 
 use crate::judging::nets_of;
 use crate::raw_cell::RawCell;
 use lz_base::Port;
+use n_cells::Flop;
 
-/// The bits of all ports.
-pub(crate) fn count_bits(ports: &[Port]) -> u128
+// The bits of all ports.
+fn count_bits(ports: &[Port]) -> u128
     requires { HaveWidths ports.now }
     ensures count { result ≡ port_bits ports.now }
     ensures bound { result ≤ 128 * length ports.now }
@@ -18,10 +19,19 @@ pub(crate) fn count_bits(ports: &[Port]) -> u128
     bits
 }
 
+/// The number of the first net behind the flip-flops'.
+pub(crate) fn count_front(inputs: &[Port], flops: &[Flop]) -> u128
+    requires { HaveWidths inputs.now }
+    ensures count { result ≡ first_net inputs.now flops.now }
+    ensures bound { result < 2 ^ 72 }
+{
+    2 + count_bits(inputs) + flops.len() as u128
+}
+
 /// The nets of all cells.
 pub(crate) fn count_nets(cells: &[RawCell]) -> u128
     ensures count { result ≡ cell_nets cells.now }
-    ensures bound { result ≤ 2 * length cells.now }
+    ensures bound { result < 2 ^ 66 }
 {
     let mut nets = 0;
     for cell in cells {

@@ -1,14 +1,15 @@
 ghost use Rattle.std.specs.Prelude.{◌≡◌, ◌≤◌, ◌<◌, ◌+◌, ◌*◌, ◌^◌, ◌/◌, ◌∷◌, [], length, flat_map, Err};
 ghost use Rattle.lz_lines.specs.Fields.{number};
 ghost use Rattle.n_cells.specs.Cell.{stored_of};
+ghost use Rattle.n_cells.specs.Leaves.{most_leaves};
 ghost use Rattle.n_cells.specs.Netlist.{nets_of, cell_nets, HasShape, HaveShapes};
 ghost use Rattle.n_cells.specs.Text.{cell_line, flop_line};
 ghost use Rattle.n_text.specs.Answers.{Judges};
-ghost use Rattle.n_text.specs.Referred.{wrong_nets, wrong_cell, wrong_cells, wrong_flops};
+ghost use Rattle.n_text.specs.Referred.{flop_nets, wrong_nets, wrong_cell, wrong_cells, wrong_flops};
 
 use crate::raw_cell::RawCell;
 use lz_base::{Fault, Num, Rule, Stop};
-use n_cells::{Cell, Flop};
+use n_cells::{Cell, Flop, Format};
 
 pub(crate) fn wrong(at: usize) -> Stop
     ensures { Judges (Err result) 0 (at ∷ []) }
@@ -24,7 +25,13 @@ pub(crate) fn wrong(at: usize) -> Stop
 pub(crate) fn number_length(n: u128) -> usize
     ensures { result ≡ length (number n) }
 {
-    if n < 10 { 2 } else { number_length(n / 10) + 1 }
+    if n < 10 {
+        2
+    } else if n < 1 << 64 {
+        number_length(u128::from(n as u64 / 10)) + 1
+    } else {
+        number_length(n / 10) + 1
+    }
 }
 
 // Judges the numbers of a line, the blank of the first at this place, and gives the place behind them.
@@ -62,7 +69,7 @@ fn judge_cell(cell: Cell<'_>, next: u128, at: usize) -> Result<usize, Stop>
 
 // The digits of a table over so many leaves.
 fn digit_count(leaves: usize) -> usize
-    requires { leaves ≤ 4 }
+    requires { leaves ≤ most_leaves }
     ensures { result ≡ (2 ^ leaves + 3) / 4 }
 {
     ((1usize << leaves) + 3) / 4
@@ -96,14 +103,31 @@ pub(crate) fn judge_cells(cells: &[RawCell], first: u128, at: usize) -> Result<u
     Ok(at)
 }
 
+// Judges the line of a flip-flop that begins at this place, and gives the place behind it.
+fn judge_flop(format: Format, flop: &Flop, count: u128, at: usize) -> Result<usize, Stop>
+    requires { at + length (flop_line format flop.now) < 2 ^ 64 }
+    ensures { Judges result (at + length (flop_line format flop.now)) (wrong_nets count (at + 4) (flop_nets format flop.now)) }
+{
+    let behind = match format {
+        Format::One => judge_nets(&[flop.net], count, at + 4)?,
+        Format::Two => judge_nets(&[flop.net, flop.enable], count, at + 4)?,
+    };
+    Ok(behind + 1)
+}
+
 // Judges the lines of flip-flops, the first of which begins at this place, and gives the place behind them.
-pub(crate) fn judge_flops(flops: &[Flop], count: u128, at: usize) -> Result<usize, Stop>
-    requires room { at + length (flat_map flop_line flops.now) < 2 ^ 64 }
-    ensures { Judges result (at + length (flat_map flop_line flops.now)) (wrong_flops count at flops.now) }
+pub(crate) fn judge_flops(
+    format: Format,
+    flops: &[Flop],
+    count: u128,
+    at: usize,
+) -> Result<usize, Stop>
+    requires room { at + length (flat_map (flop_line format) flops.now) < 2 ^ 64 }
+    ensures { Judges result (at + length (flat_map (flop_line format) flops.now)) (wrong_flops format count at flops.now) }
 {
     let mut at = at;
     for flop in flops {
-        at = judge_nets(&[flop.net], count, at + 4)? + 1;
+        at = judge_flop(format, flop, count, at)?;
     }
     Ok(at)
 }

@@ -1,9 +1,6 @@
-ghost use Rattle.std.specs.Prelude.{◌≡◌, true};
-ghost use Rattle.n_text.specs.Raw.{is_end};
-ghost use Rattle.n_text.specs.Spelling.{key_word, may_open};
-
 use crate::raw_cell::RawCell;
 use lz_base::{Items, Name, Num, Port};
+use lz_lines::Keyword;
 use n_cells::Flop;
 
 /// The word that begins a line.
@@ -18,16 +15,7 @@ pub(crate) enum Key {
     End,
 }
 
-/// Which lines may come next. Outputs and the end always may.
-#[derive(Clone, Copy)]
-pub(crate) struct Open {
-    pub(crate) clock: bool,
-    pub(crate) input: bool,
-    pub(crate) flop: bool,
-    pub(crate) cell: bool,
-}
-
-/// A line behind the model's, whatever its nets and its name refer to.
+/// A line between the model's and the end, whatever its nets and its name refer to.
 #[derive(Drop)]
 pub(crate) enum Line {
     Clock(Name),
@@ -35,13 +23,14 @@ pub(crate) enum Line {
     Flop(Flop),
     Cell(RawCell),
     Output(Port, Items<Num>),
-    End,
 }
 
-impl Key {
-    pub(crate) fn word(self) -> &'static [u8]
-        ensures { result.now ≡ key_word self }
-    {
+impl Keyword for Key {
+    ghost use Rattle.n_text.specs.Keys.{key_word};
+
+    ghost spelled = { key_word };
+
+    fn word(self) -> &'static [u8] {
         match self {
             Key::Clock => b"clock",
             Key::Input => b"input",
@@ -50,31 +39,6 @@ impl Key {
             Key::Carry => b"carry",
             Key::Output => b"output",
             Key::End => b"end",
-        }
-    }
-}
-
-impl Open {
-    pub(crate) fn may(self, key: Key) -> bool
-        ensures { result ≡ may_open self key }
-    {
-        match key {
-            Key::Clock => self.clock,
-            Key::Input => self.input,
-            Key::Flop => self.flop,
-            Key::Lut | Key::Carry => self.cell,
-            Key::Output | Key::End => true,
-        }
-    }
-}
-
-impl Line {
-    pub(crate) fn is_end(&self) -> bool
-        ensures { result ≡ is_end self.now }
-    {
-        match self {
-            Line::End => true,
-            _ => false,
         }
     }
 }

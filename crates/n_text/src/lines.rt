@@ -1,147 +1,168 @@
-ghost use Rattle.std.specs.Prelude.{◌≡◌, ◌++◌, ◌≤◌, ◌^◌, List, ℕ, IsTrue, length, IfOk, IfErr};
-ghost use Rattle.lz_base.specs.Names.{IsName, is_name_byte};
-ghost use Rattle.lz_lines.specs.Fields.{field};
-ghost use Rattle.lz_lines.specs.Readers.{BeginsWithout};
-ghost use Rattle.lz_lines.specs.Unread.{Brings, IsWithin};
-ghost use Rattle.n_text.specs.declared.line.Line.{Line};
-ghost use Rattle.n_text.specs.Spelling.{IsRead, IsLine, may_open};
+ghost use Rattle.std.specs.Prelude.{◌≡◌, ◌≤◌, ◌^◌, IsTrue, Some, length, []};
+ghost use Rattle.lz_lines.specs.Fields.{IsNameField};
+ghost use Rattle.lz_lines.specs.Forms.{Anything, Obtains, Parted};
+ghost use Rattle.lz_lines.specs.Keywords.{all_apart};
+ghost use Rattle.n_cells.specs.Form.{leaves_of};
+ghost use Rattle.n_cells.specs.Leaves.{most_leaves};
+ghost use Rattle.n_text.specs.Grammar.{Ends, IsEnable, IsNext, Tail};
+ghost use Rattle.n_text.specs.Keys.{key_word};
 
-use crate::fields::read_nets;
-use crate::keys::read_key;
-use crate::line::{Key, Line, Open};
+use crate::line::{Key, Line};
 use crate::raw_cell::RawCell;
 use lz_base::{Items, Name, Num, Port};
-use lz_lines::{Unread, read_hex, read_name, read_number, read_word};
-use n_cells::Flop;
+use lz_lines::{
+    Unread, read_bit, read_hex, read_key, read_name, read_number, read_numbers, read_word,
+};
+use n_cells::{Flop, Format, LEAVES};
 use std::alloc::Global;
 
 /// Takes a name, which is copied.
 pub(crate) fn read_copy<'a>(alloc: Global, bytes: &'a [u8]) -> Result<(Name, &'a [u8]), Unread>
-    ensures found { IfOk result (λ r. IsName r.0 × (bytes.now ≡ field r.0 ++ r.1.now)) }
-    ensures only { (name rest : List ℕ) → IsName name → BeginsWithout is_name_byte rest → bytes.now ≡ field name ++ rest → Brings (λ r. r.0) (λ r. r.1.now) result name rest }
-    ensures left { IfErr result (IsWithin (length bytes.now)) }
+    ensures { Obtains IsNameField Parted (λ r. r.0) (λ r. r.1.now) bytes.now result }
 {
     let (name, rest) = read_name(bytes)?;
     Ok((Name::new(alloc, name)?, rest))
 }
 
-fn read_clock<'a>(alloc: Global, bytes: &'a [u8]) -> Result<(Line, &'a [u8]), Unread>
-    ensures found { IfOk result (λ r. IsRead Key.Clock bytes.now r.0 r.1.now) }
-    ensures only { (line : Line) (rest : List ℕ) → IsRead Key.Clock bytes.now line rest → Brings (λ r. r.0) (λ r. r.1.now) result line rest }
-    ensures left { IfErr result (IsWithin (length bytes.now)) }
+// Takes the end of a line whose fields were read.
+fn end_line(bytes: &[u8], line: Option<Line>) -> Result<(Option<Line>, &[u8]), Unread>
+    ensures { Obtains (Ends line) Anything (λ r. r.0) (λ r. r.1.now) bytes.now result }
 {
-    let (name, rest) = read_copy(alloc, bytes)?;
-    let rest = read_word(rest, b"\n")?;
-    Ok((Line::Clock(name), rest))
+    let rest = read_word(bytes, b"\n")?;
+    Ok((line, rest))
 }
 
-fn read_input<'a>(alloc: Global, bytes: &'a [u8]) -> Result<(Line, &'a [u8]), Unread>
-    ensures found { IfOk result (λ r. IsRead Key.Input bytes.now r.0 r.1.now) }
-    ensures only { (line : Line) (rest : List ℕ) → IsRead Key.Input bytes.now line rest → Brings (λ r. r.0) (λ r. r.1.now) result line rest }
-    ensures left { IfErr result (IsWithin (length bytes.now)) }
+fn read_clock<'a>(alloc: Global, bytes: &'a [u8]) -> Result<(Option<Line>, &'a [u8]), Unread>
+    ensures { Obtains (Tail Format.Two Key.Clock) Anything (λ r. r.0) (λ r. r.1.now) bytes.now result }
+{
+    let (name, rest) = read_copy(alloc, bytes)?;
+    end_line(rest, Some(Line::Clock(name)))
+}
+
+fn read_input<'a>(alloc: Global, bytes: &'a [u8]) -> Result<(Option<Line>, &'a [u8]), Unread>
+    ensures { Obtains (Tail Format.Two Key.Input) Anything (λ r. r.0) (λ r. r.1.now) bytes.now result }
 {
     let (name, rest) = read_copy(alloc, bytes)?;
     let (width, rest) = read_number(rest, 1, 128)?;
-    let rest = read_word(rest, b"\n")?;
     let port = Port {
         name,
         width: width as u32,
     };
-    Ok((Line::Input(port), rest))
+    end_line(rest, Some(Line::Input(port)))
 }
 
-fn read_flop(bytes: &[u8]) -> Result<(Line, &[u8]), Unread>
-    ensures found { IfOk result (λ r. IsRead Key.Flop bytes.now r.0 r.1.now) }
-    ensures only { (line : Line) (rest : List ℕ) → IsRead Key.Flop bytes.now line rest → Brings (λ r. r.0) (λ r. r.1.now) result line rest }
-    ensures left { IfErr result (IsWithin (length bytes.now)) }
+// Takes the enable of a flip-flop, which is the constant 1 where the format leaves it out.
+fn read_enable(format: Format, bytes: &[u8]) -> Result<(Num, &[u8]), Unread>
+    ensures { Obtains (IsEnable format) Parted (λ r. r.0) (λ r. r.1.now) bytes.now result }
 {
-    let (bit, rest) = read_number(bytes, 0, 1)?;
+    match format {
+        Format::One => Ok((1, bytes)),
+        Format::Two => Ok(read_number(bytes, 0, u128::MAX)?),
+    }
+}
+
+fn read_flop(format: Format, bytes: &[u8]) -> Result<(Option<Line>, &[u8]), Unread>
+    ensures { Obtains (Tail format Key.Flop) Anything (λ r. r.0) (λ r. r.1.now) bytes.now result }
+{
+    let (first, rest) = read_bit(bytes)?;
     let (net, rest) = read_number(rest, 0, u128::MAX)?;
-    let rest = read_word(rest, b"\n")?;
-    let flop = Flop {
-        first: bit == 1,
-        net,
-    };
-    Ok((Line::Flop(flop), rest))
+    let (enable, rest) = read_enable(format, rest)?;
+    let flop = Flop { first, net, enable };
+    end_line(rest, Some(Line::Flop(flop)))
+}
+
+// The most leaves of a look-up table.
+fn most_leaves(format: Format) -> usize
+    ensures most { result ≡ leaves_of format }
+    ensures few { result ≤ most_leaves }
+{
+    match format {
+        Format::One => 4,
+        Format::Two => LEAVES,
+    }
 }
 
 // The bits of a table of so many leaves.
 fn table_width(leaves: u32) -> u32
-    requires { leaves ≤ 4 }
+    requires { leaves ≤ most_leaves }
     ensures { result ≡ 2 ^ leaves }
 {
     1 << leaves
 }
 
-fn read_lut<'a>(bytes: &'a [u8], nets: &mut Vec<Num>) -> Result<(Line, &'a [u8]), Unread>
-    ensures found { IfOk result (λ r. IsRead Key.Lut bytes.now r.0 r.1.now) }
-    ensures only { (line : Line) (rest : List ℕ) → IsRead Key.Lut bytes.now line rest → Brings (λ r. r.0) (λ r. r.1.now) result line rest }
-    ensures left { IfErr result (IsWithin (length bytes.now)) }
+fn read_lut<'a>(
+    format: Format,
+    bytes: &'a [u8],
+    nets: &mut Vec<Num>,
+) -> Result<(Option<Line>, &'a [u8]), Unread>
+    ensures { Obtains (Tail format Key.Lut) Anything (λ r. r.0) (λ r. r.1.now) bytes.now result }
 {
-    let (count, rest) = read_number(bytes, 0, 4)?;
-    let rest = read_nets(rest, count as usize, count as usize, nets)?;
+    let (count, rest) = read_number(bytes, 0, most_leaves(format) as u128)?;
+    let rest = read_numbers(rest, count as usize, count as usize, u128::MAX, nets)?;
     let (table, rest) = read_hex(rest, table_width(count as u32))?;
-    let rest = read_word(rest, b"\n")?;
-    Ok((Line::Cell(RawCell::lut(nets, table as u64)), rest))
+    end_line(rest, Some(Line::Cell(RawCell::lut(nets, table as u64))))
 }
 
-fn read_carry<'a>(bytes: &'a [u8], nets: &mut Vec<Num>) -> Result<(Line, &'a [u8]), Unread>
-    ensures found { IfOk result (λ r. IsRead Key.Carry bytes.now r.0 r.1.now) }
-    ensures only { (line : Line) (rest : List ℕ) → IsRead Key.Carry bytes.now line rest → Brings (λ r. r.0) (λ r. r.1.now) result line rest }
-    ensures left { IfErr result (IsWithin (length bytes.now)) }
+fn read_carry(bytes: &[u8]) -> Result<(Option<Line>, &[u8]), Unread>
+    ensures { Obtains (Tail Format.Two Key.Carry) Anything (λ r. r.0) (λ r. r.1.now) bytes.now result }
 {
-    let rest = read_nets(bytes, 3, 3, nets)?;
-    let rest = read_word(rest, b"\n")?;
-    Ok((Line::Cell(RawCell::carry(nets[0], nets[1], nets[2])), rest))
+    let (a, rest) = read_number(bytes, 0, u128::MAX)?;
+    let (b, rest) = read_number(rest, 0, u128::MAX)?;
+    let (c, rest) = read_number(rest, 0, u128::MAX)?;
+    end_line(rest, Some(Line::Cell(RawCell::carry(a, b, c))))
 }
 
 fn read_output<'a>(
     alloc: Global,
     bytes: &'a [u8],
     nets: &mut Vec<Num>,
-) -> Result<(Line, &'a [u8]), Unread>
-    ensures found { IfOk result (λ r. IsRead Key.Output bytes.now r.0 r.1.now) }
-    ensures only { (line : Line) (rest : List ℕ) → IsRead Key.Output bytes.now line rest → Brings (λ r. r.0) (λ r. r.1.now) result line rest }
-    ensures left { IfErr result (IsWithin (length bytes.now)) }
+) -> Result<(Option<Line>, &'a [u8]), Unread>
+    ensures { Obtains (Tail Format.Two Key.Output) Anything (λ r. r.0) (λ r. r.1.now) bytes.now result }
 {
     let (name, rest) = read_copy(alloc, bytes)?;
-    let rest = read_nets(rest, 1, 128, nets)?;
-    let rest = read_word(rest, b"\n")?;
+    let rest = read_numbers(rest, 1, 128, u128::MAX, nets)?;
     let port = Port {
         name,
         width: nets.len() as u32,
     };
-    Ok((Line::Output(port, Items::from_slice(alloc, nets)?), rest))
+    end_line(
+        rest,
+        Some(Line::Output(port, Items::from_slice(alloc, nets)?)),
+    )
 }
 
-fn read_last(bytes: &[u8]) -> Result<(Line, &[u8]), Unread>
-    ensures found { IfOk result (λ r. IsRead Key.End bytes.now r.0 r.1.now) }
-    ensures only { (line : Line) (rest : List ℕ) → IsRead Key.End bytes.now line rest → Brings (λ r. r.0) (λ r. r.1.now) result line rest }
-    ensures left { IfErr result (IsWithin (length bytes.now)) }
-{
-    let rest = read_word(bytes, b"\n")?;
-    Ok((Line::End, rest))
-}
-
-/// Takes one of the lines that may come next. The vector is room for its nets.
+/// Takes a line whose word is one of these, or the end's, for which it gives none. The vector is room for its nets.
 pub(crate) fn read_line<'a>(
     alloc: Global,
+    format: Format,
     bytes: &'a [u8],
-    next: Open,
+    keys: &[Key],
     nets: &mut Vec<Num>,
-) -> Result<(Line, &'a [u8]), Unread>
-    ensures found { IfOk result (λ r. IsLine next bytes.now r.0 r.1.now) }
-    ensures only { (line : Line) (rest : List ℕ) → IsLine next bytes.now line rest → Brings (λ r. r.0) (λ r. r.1.now) result line rest }
-    ensures left { IfErr result (IsWithin (length bytes.now)) }
+) -> Result<(Option<Line>, &'a [u8]), Unread>
+    requires { IsTrue (all_apart key_word Key.End keys.now) }
+    ensures { Obtains (IsNext format keys.now) Anything (λ r. r.0) (λ r. r.1.now) bytes.now result }
 {
-    let (key, rest) = read_key(bytes, next)?;
+    let (key, rest) = read_key(bytes, keys, Key::End)?;
+    read_tail(alloc, format, rest, key, nets)
+}
+
+// Takes what stands behind the word of a line.
+fn read_tail<'a>(
+    alloc: Global,
+    format: Format,
+    bytes: &'a [u8],
+    key: Key,
+    nets: &mut Vec<Num>,
+) -> Result<(Option<Line>, &'a [u8]), Unread>
+    ensures { Obtains (Tail format key) Anything (λ r. r.0) (λ r. r.1.now) bytes.now result }
+{
     match key {
-        Key::Clock => read_clock(alloc, rest),
-        Key::Input => read_input(alloc, rest),
-        Key::Flop => read_flop(rest),
-        Key::Lut => read_lut(rest, nets),
-        Key::Carry => read_carry(rest, nets),
-        Key::Output => read_output(alloc, rest, nets),
-        Key::End => read_last(rest),
+        Key::Clock => read_clock(alloc, bytes),
+        Key::Input => read_input(alloc, bytes),
+        Key::Flop => read_flop(format, bytes),
+        Key::Lut => read_lut(format, bytes, nets),
+        Key::Carry => read_carry(bytes),
+        Key::Output => read_output(alloc, bytes, nets),
+        Key::End => end_line(bytes, None),
     }
 }

@@ -40,7 +40,7 @@ fn fill_flops(maker: &mut NetlistMaker, flops: &[Flop]) -> Result<(), OutOfMemor
     ensures { OnOk result (maker.new ≡ record maker.old { flops = maker.old.flops ++ flops.now }) }
 {
     for flop in flops {
-        maker.flip(flop.first, flop.net)?;
+        maker.flip(flop.first, flop.net, flop.enable)?;
     }
     Ok(())
 }
@@ -91,7 +91,8 @@ fn fill_outputs(
 /// The netlist of lines that were read, where no reference is wrong.
 pub(crate) fn make(alloc: Global, raw: Raw) -> Result<Netlist, OutOfMemory>
     requires { IsWellFormed raw }
-    ensures { IfOk result (λ n. n ≡ raw) }
+    ensures same { IfOk result (λ n. n ≡ raw) }
+    ensures formed { IfOk result IsWellFormed }
 {
     let Raw {
         name,

@@ -1,21 +1,14 @@
 ghost use Rattle.std.specs.Prelude.{◌≡◌, ◌≤◌, ◌<◌, ◌+◌, ◌^◌, ◌++◌, ◌∷◌, [], List, ℕ, length, map, flat_map, not, IfOk, OnOk};
+ghost use Rattle.lz_base.specs.Met.{Met};
 ghost use Rattle.lz_lines.specs.Fields.{field};
 ghost use Rattle.n_cells.specs.Netlist.{FillOutputs};
 ghost use Rattle.n_cells.specs.Text.{input_line, output_line, output_lines};
 ghost use Rattle.n_text.specs.Answers.{Judges};
-ghost use Rattle.n_text.specs.Met.{Met};
-ghost use Rattle.n_text.specs.Referred.{is_among, wrong_name, wrong_nets, wrong_inputs, wrong_outputs};
+ghost use Rattle.n_text.specs.Referred.{wrong_name, wrong_nets, wrong_inputs, wrong_outputs};
 
 use crate::judging::{judge_nets, number_length, wrong};
-use lz_base::{Items, Num, OutOfMemory, Port, Stop};
+use lz_base::{Items, Num, Port, Stop, meet};
 use std::collections::BTreeSet;
-
-/// Whether a name is none of those that were met. From now on it is one of them.
-pub(crate) fn meet<'a>(met: &mut BTreeSet<&'a [u8]>, name: &'a [u8]) -> Result<bool, OutOfMemory>
-    ensures { IfOk result (λ added. (names : List (List ℕ)) → Met met.old names → (added ≡ not (is_among name.now names)) × Met met.new (names ++ name.now ∷ [])) }
-{
-    Ok(met.insert(name)?)
-}
 
 // Judges the line of an input that begins at this place, and gives the place behind it.
 fn judge_input<'a>(port: &'a Port, met: &mut BTreeSet<&'a [u8]>, at: usize) -> Result<usize, Stop>
@@ -63,7 +56,8 @@ fn judge_output<'a>(
     ensures met { OnOk result ((names : List (List ℕ)) → Met met.old names → Met met.new (names ++ port.now.name ∷ [])) }
 {
     let name = port.name.bytes();
-    if !meet(met, name)? {
+    let is_new = meet(met, name)?;
+    if !is_new {
         return Err(wrong(at + 7));
     }
     Ok(judge_nets(nets, count, at + 7 + name.len())? + 1)

@@ -3,66 +3,69 @@ ghost use Rattle.std.specs.Option.{option_copied};
 ghost use Rattle.lz_base.specs.Names.{IsName};
 ghost use Rattle.lz_lines.specs.Fields.{number};
 ghost use Rattle.n_cells.specs.Cell.{stored_of};
+ghost use Rattle.n_cells.specs.Form.{bound, ClockNamed, PortsNamed, CellsBelow, HasForm};
 ghost use Rattle.n_cells.specs.Netlist.{HasShape, AllBelow, ReadsBelow, FlopsBelow, OutputsBelow};
 ghost use Rattle.n_cells.specs.Text.{input_line, flop_line, cell_line, output_line, output_lines, clock_line, text};
-ghost use Rattle.n_text.specs.Form.{bound, ClockNamed, PortsNamed, CellsBelow, HasForm};
 
 use lz_base::{Name, Num, OutOfMemory, Port};
-use lz_lines::{push_field, push_hex, push_line_end, push_number};
-use n_cells::{Cell, Flop, Netlist};
+use lz_lines::{push_bit, push_field, push_hex, push_line_end, push_number};
+use n_cells::{Cell, Flop, Format, Netlist};
 use std::alloc::Global;
 
-fn push_numbers(alloc: Global, out: &mut Vec<u8>, ns: &[Num]) -> Result<(), OutOfMemory>
+fn push_numbers(out: &mut Vec<u8>, ns: &[Num]) -> Result<(), OutOfMemory>
     ensures text { OnOk result (out.new.items ≡ out.old.items ++ flat_map number ns.now) }
     ensures below { OnOk result (AllBelow bound ns.now) }
 {
     for n in ns {
-        push_number(alloc, out, *n)?;
+        push_number(out, *n)?;
     }
     Ok(())
 }
 
-fn push_input(alloc: Global, out: &mut Vec<u8>, port: &Port) -> Result<(), OutOfMemory>
+fn push_input(out: &mut Vec<u8>, port: &Port) -> Result<(), OutOfMemory>
     ensures text { OnOk result (out.new.items ≡ out.old.items ++ input_line port.now) }
     ensures named { OnOk result (IsName port.now.name) }
 {
     out.extend_from_slice(b"input")?;
     push_field(out, port.name.bytes())?;
-    push_number(alloc, out, u128::from(port.width))?;
+    push_number(out, u128::from(port.width))?;
     push_line_end(out)
 }
 
-fn push_inputs(alloc: Global, out: &mut Vec<u8>, ports: &[Port]) -> Result<(), OutOfMemory>
+fn push_inputs(out: &mut Vec<u8>, ports: &[Port]) -> Result<(), OutOfMemory>
     ensures text { OnOk result (out.new.items ≡ out.old.items ++ flat_map input_line ports.now) }
     ensures named { OnOk result (PortsNamed ports.now) }
 {
     for port in ports {
-        push_input(alloc, out, port)?;
+        push_input(out, port)?;
     }
     Ok(())
 }
 
-fn push_flop(alloc: Global, out: &mut Vec<u8>, flop: &Flop) -> Result<(), OutOfMemory>
-    ensures text { OnOk result (out.new.items ≡ out.old.items ++ flop_line flop.now) }
+#[tactic(auto, using(crate::proofs::Spelling::bit_is))]
+fn push_flop(out: &mut Vec<u8>, flop: &Flop) -> Result<(), OutOfMemory>
+    ensures text { OnOk result (out.new.items ≡ out.old.items ++ flop_line Format.Two flop.now) }
     ensures below { OnOk result (flop.now.net < bound) }
+    ensures enable { OnOk result (flop.now.enable < bound) }
 {
     out.extend_from_slice(b"ff")?;
-    out.extend_from_slice(if flop.first { b" 1" } else { b" 0" })?;
-    push_number(alloc, out, flop.net)?;
+    push_bit(out, flop.first)?;
+    push_number(out, flop.net)?;
+    push_number(out, flop.enable)?;
     push_line_end(out)
 }
 
-fn push_flops(alloc: Global, out: &mut Vec<u8>, flops: &[Flop]) -> Result<(), OutOfMemory>
-    ensures text { OnOk result (out.new.items ≡ out.old.items ++ flat_map flop_line flops.now) }
+fn push_flops(out: &mut Vec<u8>, flops: &[Flop]) -> Result<(), OutOfMemory>
+    ensures text { OnOk result (out.new.items ≡ out.old.items ++ flat_map (flop_line Format.Two) flops.now) }
     ensures below { OnOk result (FlopsBelow bound flops.now) }
 {
     for flop in flops {
-        push_flop(alloc, out, flop)?;
+        push_flop(out, flop)?;
     }
     Ok(())
 }
 
-fn push_cell(alloc: Global, out: &mut Vec<u8>, cell: Cell<'_>) -> Result<(), OutOfMemory>
+fn push_cell(out: &mut Vec<u8>, cell: Cell<'_>) -> Result<(), OutOfMemory>
     requires { HasShape (stored_of cell) }
     ensures text { OnOk result (out.new.items ≡ out.old.items ++ cell_line (stored_of cell.entry)) }
     ensures below { OnOk result (ReadsBelow bound (stored_of cell.entry)) }
@@ -70,55 +73,50 @@ fn push_cell(alloc: Global, out: &mut Vec<u8>, cell: Cell<'_>) -> Result<(), Out
     match cell {
         Cell::Lut { leaves, table } => {
             out.extend_from_slice(b"lut")?;
-            push_number(alloc, out, leaves.len() as u128)?;
-            push_numbers(alloc, out, leaves)?;
+            push_number(out, leaves.len() as u128)?;
+            push_numbers(out, leaves)?;
             push_hex(out, 1u32 << leaves.len(), u128::from(table))?;
             push_line_end(out)
         }
         Cell::Carry(a, b, c) => {
             out.extend_from_slice(b"carry")?;
-            push_number(alloc, out, a)?;
-            push_number(alloc, out, b)?;
-            push_number(alloc, out, c)?;
+            push_number(out, a)?;
+            push_number(out, b)?;
+            push_number(out, c)?;
             push_line_end(out)
         }
     }
 }
 
-fn push_cells(alloc: Global, out: &mut Vec<u8>, netlist: &Netlist) -> Result<(), OutOfMemory>
+fn push_cells(out: &mut Vec<u8>, netlist: &Netlist) -> Result<(), OutOfMemory>
     ensures text { OnOk result (out.new.items ≡ out.old.items ++ flat_map cell_line netlist.now.cells) }
     ensures below { OnOk result (CellsBelow bound netlist.now.cells) }
 {
     for i in 0..netlist.cell_count() {
-        push_cell(alloc, out, netlist.cell(i))?;
+        push_cell(out, netlist.cell(i))?;
     }
     Ok(())
 }
 
-fn push_output(
-    alloc: Global,
-    out: &mut Vec<u8>,
-    port: &Port,
-    nets: &[Num],
-) -> Result<(), OutOfMemory>
+fn push_output(out: &mut Vec<u8>, port: &Port, nets: &[Num]) -> Result<(), OutOfMemory>
     ensures text { OnOk result (out.new.items ≡ out.old.items ++ output_line port.now nets.now) }
     ensures named { OnOk result (IsName port.now.name) }
     ensures below { OnOk result (AllBelow bound nets.now) }
 {
     out.extend_from_slice(b"output")?;
     push_field(out, port.name.bytes())?;
-    push_numbers(alloc, out, nets)?;
+    push_numbers(out, nets)?;
     push_line_end(out)
 }
 
-fn push_outputs(alloc: Global, out: &mut Vec<u8>, netlist: &Netlist) -> Result<(), OutOfMemory>
+fn push_outputs(out: &mut Vec<u8>, netlist: &Netlist) -> Result<(), OutOfMemory>
     ensures text { OnOk result (out.new.items ≡ out.old.items ++ output_lines netlist.now.outputs netlist.now.nets) }
     ensures named { OnOk result (PortsNamed netlist.now.outputs) }
     ensures below { OnOk result (OutputsBelow bound netlist.now.nets) }
 {
     let outputs = netlist.outputs();
     for i in 0..outputs.len() {
-        push_output(alloc, out, &outputs[i], netlist.output_nets(i))?;
+        push_output(out, &outputs[i], netlist.output_nets(i))?;
     }
     Ok(())
 }
@@ -137,20 +135,20 @@ fn push_clock(out: &mut Vec<u8>, clock: Option<&Name>) -> Result<(), OutOfMemory
     }
 }
 
-/// The one text of a netlist. The netlist has the form of those that are read back from their texts.
+/// The one text of a netlist in format 2. The netlist has the form of those that are read back from their texts.
 pub fn print(alloc: Global, netlist: &Netlist) -> Result<Vec<u8>, OutOfMemory>
-    ensures text { IfOk result (λ v. v.items ≡ text netlist.now) }
-    ensures form { IfOk result (λ _. HasForm netlist.now) }
+    ensures text { IfOk result (λ v. v.items ≡ text Format.Two netlist.now) }
+    ensures form { IfOk result (λ _. HasForm Format.Two netlist.now) }
 {
     let mut out = Vec::new(alloc);
-    out.extend_from_slice(b"lutnet 1\nmodel")?;
+    out.extend_from_slice(b"lutnet 2\nmodel")?;
     push_field(&mut out, netlist.name().bytes())?;
     push_line_end(&mut out)?;
     push_clock(&mut out, netlist.clock())?;
-    push_inputs(alloc, &mut out, netlist.inputs())?;
-    push_flops(alloc, &mut out, netlist.flops())?;
-    push_cells(alloc, &mut out, netlist)?;
-    push_outputs(alloc, &mut out, netlist)?;
+    push_inputs(&mut out, netlist.inputs())?;
+    push_flops(&mut out, netlist.flops())?;
+    push_cells(&mut out, netlist)?;
+    push_outputs(&mut out, netlist)?;
     out.extend_from_slice(b"end\n")?;
     Ok(out)
 }

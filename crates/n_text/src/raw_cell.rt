@@ -1,54 +1,16 @@
 ghost use Rattle.std.specs.Prelude.{◌≡◌, ◌≤◌, length};
 ghost use Rattle.n_cells.specs.Cell.{stored_of};
+ghost use Rattle.n_cells.specs.Leaves.{most_leaves};
 ghost use Rattle.n_cells.specs.declared.netlist.Stored.TheVariants as stored;
 ghost use Rattle.n_text.specs.Cells.{kept_of};
 
 use lz_base::Num;
-use n_cells::Cell;
+use n_cells::{Cell, Leaves};
 use std::marker::Model;
-
-// At most four nets, kept in place.
-#[derive(Drop)]
-pub(crate) struct Few {
-    nets: [Num; 4],
-    count: usize,
-}
-
-impl Model for Few {
-    ghost use Rattle.std.specs.Prelude.{List, ℕ, ◌≤◌, take};
-
-    ghost Value = { List ℕ };
-
-    ghost view = { λ l. take l.count l.nets };
-
-    ghost invariant = { λ l. l.count ≤ 4 };
-}
-
-impl Few {
-    fn new(leaves: &[Num]) -> Few
-        requires { length leaves.now ≤ 4 }
-        ensures { result ≡ leaves.now }
-    {
-        let mut nets = [0; 4];
-        for (i, leaf) in leaves.iter().enumerate() {
-            nets[i] = *leaf;
-        }
-        Few {
-            nets,
-            count: leaves.len(),
-        }
-    }
-
-    fn as_slice(&self) -> &[Num]
-        ensures { result.now ≡ self.now }
-    {
-        &self.nets[..self.count]
-    }
-}
 
 #[derive(Drop)]
 pub(crate) enum Kept {
-    Lut { leaves: Few, table: u64 },
+    Lut { leaves: Leaves, table: u64 },
     Carry(Num, Num, Num),
 }
 
@@ -69,12 +31,12 @@ impl Model for RawCell {
 
 impl RawCell {
     pub(crate) fn lut(leaves: &[Num], table: u64) -> RawCell
-        requires { length leaves.now ≤ 4 }
+        requires { length leaves.now ≤ most_leaves }
         ensures { result ≡ stored.Lut leaves.now table }
     {
         RawCell {
             kept: Kept::Lut {
-                leaves: Few::new(leaves),
+                leaves: Leaves::new(leaves),
                 table,
             },
         }

@@ -1,47 +1,50 @@
-ghost use Rattle.std.specs.Prelude.{◌≡◌, ◌++◌, ◌∷◌, ◌≤◌, length, IfOk, IfErr, List, ℕ};
-ghost use Rattle.lz_base.specs.Names.{IsName};
-ghost use Rattle.lz_lines.specs.Unread.{IsWithin, Makes};
-ghost use Rattle.n_cells.specs.Netlist.{NetlistValue};
-ghost use Rattle.n_cells.specs.Text.{text};
-ghost use Rattle.n_text.specs.Form.{HasForm};
-ghost use Rattle.n_text.specs.Raw.{body, end_line};
+ghost use Rattle.std.specs.Prelude.{◌≡◌, []};
+ghost use Rattle.lz_lines.specs.Forms.{Nothing, Obtains};
+ghost use Rattle.n_text.specs.Answers.{IsText};
+ghost use Rattle.n_text.specs.Grammar.{Rest};
+ghost use Rattle.n_text.specs.Raw.{bare, head};
 
-use crate::line::Line;
 use crate::lines::{read_copy, read_line};
 use crate::raw::Raw;
 use lz_base::Name;
 use lz_lines::{Unread, read_end, read_word};
+use n_cells::Format;
 use std::alloc::Global;
 
 // Takes the lines behind the model's, up to the end.
-fn read_lines(alloc: Global, bytes: &[u8], name: Name) -> Result<Raw, Unread>
-    requires { IsName name }
-    ensures found { IfOk result (λ n. HasForm n × (n.name ≡ name) × (bytes.now ≡ body n ++ end_line)) }
-    ensures only { (n : NetlistValue) → HasForm n → n.name ≡ name → bytes.now ≡ body n ++ end_line → Makes (λ r. r) result n }
-    ensures left { IfErr result (IsWithin (length bytes.now)) }
+fn read_lines(alloc: Global, format: Format, bytes: &[u8], name: Name) -> Result<Raw, Unread>
+    ensures { Obtains (Rest format (bare name)) Nothing (λ r. r) (λ _. []) bytes.now result }
 {
     let mut nets = Vec::new(alloc);
     let mut raw = Raw::new(alloc, name);
     let mut left = bytes;
     'lines: loop {
-        let (line, rest) = read_line(alloc, left, raw.next(), &mut nets)?;
-        if line.is_end() {
+        let (line, rest) = read_line(alloc, format, left, raw.keys(), &mut nets)?;
+        let Some(line) = line else {
             read_end(rest)?;
             return Ok(raw);
-        }
+        };
         raw.add(line)?;
         left = rest;
     }
 }
 
-/// The netlist whose lines these are, whatever its nets and names refer to.
-pub(crate) fn read_raw(alloc: Global, bytes: &[u8]) -> Result<Raw, Unread>
-    ensures found { IfOk result (λ n. HasForm n × (bytes.now ≡ text n)) }
-    ensures only { (n : NetlistValue) → HasForm n → bytes.now ≡ text n → Makes (λ r. r) result n }
-    ensures left { IfErr result (IsWithin (length bytes.now)) }
+// The first line, and the model's up to its name.
+fn head(format: Format) -> &'static [u8]
+    ensures { result.now ≡ head format }
 {
-    let rest = read_word(bytes, b"lutnet 1\nmodel")?;
+    match format {
+        Format::One => b"lutnet 1\nmodel",
+        Format::Two => b"lutnet 2\nmodel",
+    }
+}
+
+/// The netlist whose lines these are, whatever its nets and names refer to.
+pub(crate) fn read_raw(alloc: Global, format: Format, bytes: &[u8]) -> Result<Raw, Unread>
+    ensures { Obtains (IsText format) Nothing (λ r. r) (λ _. []) bytes.now result }
+{
+    let rest = read_word(bytes, head(format))?;
     let (name, rest) = read_copy(alloc, rest)?;
     let rest = read_word(rest, b"\n")?;
-    read_lines(alloc, rest, name)
+    read_lines(alloc, format, rest, name)
 }

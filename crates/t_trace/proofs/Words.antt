@@ -1,8 +1,12 @@
 -- What is read of the words of a line.
-use Rattle.std.proofs.Common.{◌≡◌, ℕ, zero, suc, ◌≤◌, ◌<◌, ◌^◌, List, [], ◌∷◌, ◌++◌, length, get_or, flat_map, refl, arith, ap, sym, ◌∙◌, append_assoc, append-nil}
-use Rattle.std.proofs.lemmas.List.Concat.{flat_map-cons, flat_map-append}
+use Rattle.std.proofs.Common.{◌≡◌, ℕ, zero, suc, ◌≤◌, ◌<◌, List, [], ◌∷◌, ◌++◌, length, get_or, flat_map, refl, arith, ap, sym, subst, ◌∙◌, append_assoc, append-nil}
+use Rattle.std.proofs.lemmas.List.Concat.{flat_map-cons}
+use Rattle.std.proofs.lemmas.Nat.{pow_pos}
 use Rattle.lz_base.specs.WordValue.{WordValue}
-use Rattle.lz_lines.specs.Fields.{field, hex}
+use Rattle.lz_lines.specs.Fields.{IsHex, field, hex}
+use Rattle.lz_lines.specs.Forms.{Takes, Breaks, Anything, Then, Done}
+use Rattle.lz_lines.proofs.Forms.{After, after_start, after_same, after_then, after_breaks, after_takes, then_broken, done_takes}
+use Rattle.t_trace.specs.Lines.{AreWords}
 use Rattle.t_trace.specs.Texts.{word_field}
 use Rattle.t_trace.specs.Widths.{AreWidths, FitWidths}
 
@@ -17,65 +21,81 @@ width_high [] i h within = absurd (omega arith)
 width_high (w ∷ ws) zero h within = h.1
 width_high (w ∷ ws) (suc i) h within = width_high ws i h.2 (omega arith)
 
--- one word more
-pub fit_more : (widths : List ℕ) (words : List WordValue) (width value : ℕ) → FitWidths widths words → value < 2 ^ width
-    → FitWidths (widths ++ width ∷ []) (words ++ record { width = width; value = value } ∷ [])
-fit_more [] [] width value h fits = (refl, fits, tt)
-fit_more [] (w ∷ ws) width value h fits = absurd h
-fit_more (x ∷ xs) [] width value h fits = absurd h
-fit_more (x ∷ xs) (w ∷ ws) width value h fits = (h.0, h.1, fit_more xs ws width value h.2 fits)
+-- some words have these widths
+pub some_words : (widths : List ℕ) → (words : List WordValue) × FitWidths widths words
+some_words [] = ([], tt)
+some_words (w ∷ ws) = let more = some_words ws in (record { width = w; value = 0 } ∷ more.0, (refl, pow_pos w, more.1))
 
-pub fields_more : (words : List WordValue) (w : WordValue) (bytes left after : List ℕ) → bytes ≡ flat_map word_field words ++ left → left ≡ word_field w ++ after
-    → bytes ≡ flat_map word_field (words ++ w ∷ []) ++ after
-fields_more words w bytes left after e f =
-    e ∙ ap (λ l. flat_map word_field words ++ l) f ∙ sym (append_assoc (flat_map word_field words) (word_field w) after)
-    ∙ ap (λ l. l ++ after) (sym (flat_map-append word_field words (w ∷ []) ∙ ap (λ l. flat_map word_field words ++ l) (flat_map-cons word_field w [] ∙ append-nil (word_field w))))
-
--- These words were read, and the ones of these widths are still to come.
-pub record Goes (widths : List ℕ) (words : List WordValue) (left : List ℕ) (all : List WordValue) (rest : List ℕ) : Type 0 where
+-- These words were read, and the ones of these widths still come.
+pub record AreRest (widths : List ℕ) (read all : List WordValue) (text : List ℕ) : Type 0 where
   pub more : List WordValue
   pub fit : FitWidths widths more
-  pub whole : all ≡ words ++ more
-  pub text : left ≡ flat_map word_field more ++ rest
+  pub whole : all ≡ read ++ more
+  pub spelled : text ≡ flat_map word_field more
 
--- the next word is the only one that can be read
-pub goes_step : (width : ℕ) (widths : List ℕ) (words : List WordValue) (value : ℕ) (left after rest : List ℕ) (all : List WordValue)
-    → ((n : ℕ) (r : List ℕ) → n < 2 ^ width → left ≡ field (hex width n) ++ r → (value ≡ n) × (after ≡ r))
-    → Goes (width ∷ widths) words left all rest → Goes widths (words ++ record { width = width; value = value } ∷ []) after all rest
-goes_step width widths words value left after rest all reads g = at g.more g.fit g.whole g.text
+pub rest_start : (widths bytes : List ℕ) → After (AreWords widths) Anything bytes (AreRest widths []) bytes
+rest_start widths bytes = after_same (AreRest widths []) (after_start (AreWords widths) Anything bytes)
+    (λ all text r. (subst (FitWidths widths) (sym r.whole) r.fit, r.spelled ∙ ap (flat_map word_field) (sym r.whole)))
+    (λ all text is. record { more = all; fit = is.0; whole = refl; spelled = is.1 })
+
+-- the word that comes next, and then the others
+abbrev pub NextWord : ℕ → List ℕ → List WordValue → List WordValue → List ℕ → Type 0
+NextWord w widths read = Then (IsHex w) (λ n. AreRest widths (read ++ record { width = w; value = n } ∷ []))
+
+rest_comes : (whole : List ℕ) (w : ℕ) (widths : List ℕ) (read : List WordValue) {bytes left : List ℕ} → After (AreWords whole) Anything bytes (AreRest (w ∷ widths) read) left
+    → After (AreWords whole) Anything bytes (NextWord w widths read) left
+rest_comes whole w widths read h = after_same (NextWord w widths read) h to from
   where
-    at : (more : List WordValue) → FitWidths (width ∷ widths) more → all ≡ words ++ more → left ≡ flat_map word_field more ++ rest
-        → Goes widths (words ++ record { width = width; value = value } ∷ []) after all rest
-    at [] fit whole text = absurd fit
-    at (w ∷ ws) fit whole text =
-        let e : left ≡ field (hex width w.value) ++ (flat_map word_field ws ++ rest) =
-        text ∙ ap (λ l. l ++ rest) (flat_map-cons word_field w ws) ∙ append_assoc (word_field w) (flat_map word_field ws) rest ∙ ap (λ k. field (hex k w.value) ++ (flat_map word_field ws ++ rest)) fit.0 in
-        let r = reads w.value (flat_map word_field ws ++ rest) fit.1 e in
-        let same : w ≡ record { width = width; value = value } = word_is w width value fit.0 (sym r.0) in
-        record {
-          more = ws;
-          fit = fit.2;
-          whole = whole ∙ ap (λ (x : WordValue). words ++ x ∷ ws) same ∙ sym (append_assoc words (record { width = width; value = value } ∷ []) ws);
-          text = r.1;
-        }
+    to : (all : List WordValue) (text : List ℕ) → NextWord w widths read all text → AreRest (w ∷ widths) read all text
+    to all text (n, front, back, is, r, e) = record {
+      more = record { width = w; value = n } ∷ r.more;
+      fit = (refl, is.0, r.fit);
+      whole = r.whole ∙ append_assoc read (record { width = w; value = n } ∷ []) r.more;
+      spelled = e ∙ ap (λ l. l ++ back) is.1 ∙ ap (λ l. field (hex w n) ++ l) r.spelled ∙ sym (flat_map-cons word_field (record { width = w; value = n }) r.more);
+    }
+
+    from : (all : List WordValue) (text : List ℕ) → AreRest (w ∷ widths) read all text → NextWord w widths read all text
+    from all text r = at r.more r.fit r.whole r.spelled
       where
-        word_is : (w : WordValue) (width value : ℕ) → w.width ≡ width → w.value ≡ value → w ≡ record { width = width; value = value }
-        word_is w width value e f = λ i. record { width = e i; value = f i }
+        word_is : (v : WordValue) → v.width ≡ w → v ≡ record { width = w; value = v.value }
+        word_is v e = λ i. record { width = e i; value = v.value }
 
--- where no word can be read, none was to come
-pub goes_not : (width : ℕ) (widths : List ℕ) (words : List WordValue) (left rest : List ℕ) (all : List WordValue)
-    → ((n : ℕ) (r : List ℕ) → n < 2 ^ width → left ≡ field (hex width n) ++ r → ⊥) → Goes (width ∷ widths) words left all rest → ⊥
-goes_not width widths words left rest all reads g = at g.more g.fit g.text
-  where
-    at : (more : List WordValue) → FitWidths (width ∷ widths) more → left ≡ flat_map word_field more ++ rest → ⊥
-    at [] fit text = absurd fit
-    at (w ∷ ws) fit text = reads w.value (flat_map word_field ws ++ rest) fit.1
-        (text ∙ ap (λ l. l ++ rest) (flat_map-cons word_field w ws) ∙ append_assoc (word_field w) (flat_map word_field ws) rest ∙ ap (λ k. field (hex k w.value) ++ (flat_map word_field ws ++ rest)) fit.0)
+        at : (more : List WordValue) → FitWidths (w ∷ widths) more → all ≡ read ++ more → text ≡ flat_map word_field more → NextWord w widths read all text
+        at [] fit whole spelled = absurd fit
+        at (v ∷ vs) fit whole spelled = (
+          v.value,
+          field (hex w v.value),
+          flat_map word_field vs,
+          (fit.1, refl),
+          record {
+            more = vs;
+            fit = fit.2;
+            whole = whole ∙ ap (λ (x : WordValue). read ++ x ∷ vs) (word_is v fit.0) ∙ sym (append_assoc read (record { width = w; value = v.value } ∷ []) vs);
+            spelled = refl;
+          },
+          spelled ∙ flat_map-cons word_field v vs ∙ ap (λ k. field (hex k v.value) ++ flat_map word_field vs) fit.0,
+        )
 
--- no width is left, so all words were read
-pub goes_end : (words : List WordValue) (left rest : List ℕ) (all : List WordValue) → Goes [] words left all rest → (words ≡ all) × (left ≡ rest)
-goes_end words left rest all g = at g.more g.fit g.whole g.text
+-- one word more was read
+pub rest_read : (whole : List ℕ) (w n : ℕ) (widths : List ℕ) (read : List WordValue) {bytes left rest : List ℕ} → After (AreWords whole) Anything bytes (AreRest (w ∷ widths) read) left → Takes (IsHex w) Anything left n rest
+    → After (AreWords whole) Anything bytes (AreRest widths (read ++ record { width = w; value = n } ∷ [])) rest
+rest_read whole w n widths read h t = after_then (IsHex w) Anything (λ n. AreRest widths (read ++ record { width = w; value = n } ∷ [])) (rest_comes whole w widths read h) (λ a v text behind is b. tt) t
+
+-- a word that has to come is none
+pub rest_broken : (whole : List ℕ) (w : ℕ) (widths : List ℕ) (read : List WordValue) {bytes left : List ℕ} {k : ℕ} → After (AreWords whole) Anything bytes (AreRest (w ∷ widths) read) left → Breaks (IsHex w) Anything left k
+    → Breaks (AreWords whole) Anything bytes k
+rest_broken whole w widths read h b = after_breaks (rest_comes whole w widths read h)
+    (then_broken (IsHex w) Anything (λ n. AreRest widths (read ++ record { width = w; value = n } ∷ [])) Anything
+    (λ n text is. let some = some_words widths in ((read ++ record { width = w; value = n } ∷ []) ++ some.0, flat_map word_field some.0, record { more = some.0; fit = some.1; whole = refl; spelled = refl }))
+    (λ a v text behind is b. tt) b)
+
+-- all words were read
+pub rest_end : (whole : List ℕ) (read : List WordValue) {bytes left : List ℕ} → After (AreWords whole) Anything bytes (AreRest [] read) left → Takes (AreWords whole) Anything bytes read left
+rest_end whole read {left = left} h = after_takes (after_same (Done read) h
+    (λ all text is. record { more = []; fit = tt; whole = is.0 ∙ sym (append-nil read); spelled = is.1 })
+    (λ all text r. at r.more r.fit r.whole r.spelled))
+    (done_takes Anything read left)
   where
-    at : (more : List WordValue) → FitWidths [] more → all ≡ words ++ more → left ≡ flat_map word_field more ++ rest → (words ≡ all) × (left ≡ rest)
-    at [] fit whole text = (sym (whole ∙ append-nil words), text)
-    at (w ∷ ws) fit whole text = absurd fit
+    at : {all : List WordValue} {text : List ℕ} (more : List WordValue) → FitWidths [] more → all ≡ read ++ more → text ≡ flat_map word_field more → Done read all text
+    at [] fit whole spelled = (whole ∙ append-nil read, spelled)
+    at (v ∷ vs) fit whole spelled = absurd fit

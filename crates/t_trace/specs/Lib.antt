@@ -1,3 +1,3 @@
 pub mod Widths
 pub mod Texts
-pub mod Answers
+pub mod Lines

@@ -1,5 +1,5 @@
 -- The one spelling of a stimulus, and of a trace.
-use Rattle.std.specs.Prelude.{◌≡◌, ℕ, List, [], ◌∷◌, ◌++◌, flat_map, codes, Option, None, Some}
+use Rattle.std.specs.Prelude.{◌≡◌, ℕ, List, [], ◌∷◌, ◌++◌, flat_map, codes}
 use Rattle.lz_base.specs.WordValue.{WordValue}
 use Rattle.lz_lines.specs.Fields.{field, hex}
 use Rattle.t_trace.specs.Widths.{CyclesFit}
@@ -29,7 +29,9 @@ pub record IsText (text : List (List WordValue) → List ℕ) (widths bytes : Li
   pub fit : CyclesFit widths cycles
   pub spelled : bytes ≡ text cycles
 
--- a line of a cycle, or the last line
-abbrev pub line_text : List ℕ → Option (List WordValue) → List ℕ
-line_text key None = end_line
-line_text key (Some words) = cycle_line key words
+-- the form of a stimulus for these widths, and that of a trace
+abbrev pub IsStimulus : List ℕ → List (List WordValue) → List ℕ → Type 0
+IsStimulus widths cycles bytes = IsText stimulus_text widths bytes cycles
+
+abbrev pub IsTrace : List ℕ → List (List WordValue) → List ℕ → Type 0
+IsTrace widths cycles bytes = IsText trace_text widths bytes cycles

@@ -1,5 +1,5 @@
 -- When words and cycles fit the widths of ports.
-use Rattle.std.specs.Prelude.{◌≡◌, ℕ, ◌<◌, ◌≤◌, ◌^◌, List, [], ◌∷◌, ⊤, Option, None, Some}
+use Rattle.std.specs.Prelude.{◌≡◌, ℕ, ◌<◌, ◌≤◌, ◌^◌, List, [], ◌∷◌, ⊤}
 use Rattle.lz_base.specs.WordValue.{WordValue}
 
 -- widths of words
@@ -18,8 +18,3 @@ FitWidths (width ∷ widths) (w ∷ ws) = (w.width ≡ width) × (w.value < 2 ^ 
 abbrev pub CyclesFit : List ℕ → List (List WordValue) → Type 0
 CyclesFit widths [] = ⊤
 CyclesFit widths (words ∷ cycles) = FitWidths widths words × CyclesFit widths cycles
-
--- the same of a line, where the last one has no words
-abbrev pub LineFits : List ℕ → Option (List WordValue) → Type 0
-LineFits widths None = ⊤
-LineFits widths (Some words) = FitWidths widths words

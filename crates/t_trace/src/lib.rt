@@ -4,6 +4,7 @@
 //! the bytes are, and the fault T1 where they are no text for the widths; a printer gives the one text of its value.
 #![tactic(auto)]
 
+mod head;
 mod printing;
 mod reading;
 mod texts;

@@ -1,9 +1,12 @@
-ghost use Rattle.std.specs.Prelude.{◌≡◌, ℕ, List, length, IfOk, IfErr};
+ghost use Rattle.std.specs.Prelude.{◌≡◌, ℕ, List, IfOk};
+ghost use Rattle.lz_base.specs.Answers.{Answers, IfFault};
 ghost use Rattle.lz_base.specs.WordValue.{WordValue};
-ghost use Rattle.t_trace.specs.Answers.{Answers, IsUnreadable};
-ghost use Rattle.t_trace.specs.Texts.{IsText, stimulus_text, trace_text};
+ghost use Rattle.lz_base.specs.declared.rule.Rule.TheVariants.{T1};
+ghost use Rattle.lz_lines.specs.Places.{IsUnreadable};
+ghost use Rattle.t_trace.specs.Texts.{IsStimulus, IsText, IsTrace, stimulus_text, trace_text};
 ghost use Rattle.t_trace.specs.Widths.{AreWidths};
 
+use crate::head::Head;
 use crate::printing::print_cycles;
 use crate::reading::read_cycles;
 use lz_base::{Items, OutOfMemory, Rule, Stop, Word};
@@ -22,28 +25,28 @@ pub struct Trace {
 }
 
 /// The stimulus whose text the bytes are, for input ports of these widths. The fault T1 comes exactly where they are no
-/// such text, and its place is the first byte with which none can go on.
+/// such text, and its place is the length of the longest front of the bytes with which some such text begins.
 pub fn read_stimulus(alloc: Global, bytes: &[u8], widths: &[u32]) -> Result<Stimulus, Stop>
     requires { AreWidths widths.now }
     ensures found { IfOk result (λ s. IsText stimulus_text widths.now bytes.now s.cycles) }
     ensures only { (cycles : List (List WordValue)) → IsText stimulus_text widths.now bytes.now cycles → Answers (λ s. s.cycles) result cycles }
-    ensures fault { IfErr result (IsUnreadable (length bytes.now)) }
+    ensures fault { IfFault result (IsUnreadable (IsStimulus widths.now) T1 bytes.now) }
 {
-    match read_cycles(alloc, bytes, widths, b"stim 1\n", b"in") {
+    match read_cycles(alloc, bytes, widths, b"stim 1\n", Head::In) {
         Ok(cycles) => Ok(Stimulus { cycles }),
         Err(unread) => Err(unread.stop(bytes.len(), Rule::T1)),
     }
 }
 
 /// The trace whose text the bytes are, for output ports of these widths. The fault T1 comes exactly where they are no
-/// such text, and its place is the first byte with which none can go on.
+/// such text, and its place is the length of the longest front of the bytes with which some such text begins.
 pub fn read_trace(alloc: Global, bytes: &[u8], widths: &[u32]) -> Result<Trace, Stop>
     requires { AreWidths widths.now }
     ensures found { IfOk result (λ t. IsText trace_text widths.now bytes.now t.cycles) }
     ensures only { (cycles : List (List WordValue)) → IsText trace_text widths.now bytes.now cycles → Answers (λ t. t.cycles) result cycles }
-    ensures fault { IfErr result (IsUnreadable (length bytes.now)) }
+    ensures fault { IfFault result (IsUnreadable (IsTrace widths.now) T1 bytes.now) }
 {
-    match read_cycles(alloc, bytes, widths, b"trace 1\n", b"out") {
+    match read_cycles(alloc, bytes, widths, b"trace 1\n", Head::Out) {
         Ok(cycles) => Ok(Trace { cycles }),
         Err(unread) => Err(unread.stop(bytes.len(), Rule::T1)),
     }

@@ -1,27 +1,24 @@
-use Rattle.std.proofs.Common.{arith}
+use Rattle.std.proofs.Common.{◌≡◌, ◌∙◌, ◌∷◌, ◌++◌, length, ap, sym, arith, true, false}
+use Rattle.lz_base.specs.Bits.{words_bits}
+use Rattle.n_cells.specs.Netlist.{cell_nets, first_net}
+use Rattle.n_cells.specs.Walk.{all_values, walked}
 use Rattle.n_sim.proofs.Words.{bits_fit}
-use Rattle.n_sim.proofs.Walks.{walk_begins, walk_reads, walk_room, walk_on, walk_ends}
 use Rattle.n_sim.proofs.sim.settle.Goals as goal
 
-pub put_front-next-requires : goal.put_front-next-requires
-put_front-next-requires c = omega (arith, bits_fit c.args.netlist.now.inputs c.args.input.now c.requires.input)
+pub put_front-first-requires : goal.put_front-first-requires
+put_front-first-requires c = omega (arith, bits_fit c.args.netlist.now.inputs c.args.input.now c.requires.input)
 
-pub loop-i-init : goal.loop-i-init
-loop-i-init c =
-    let begins = walk_begins _ _ _ _ _ c.cell_count-i-end.ensures.formed c.requires.input c.requires.state c.put_front-next.ensures.next c.put_front-next.ensures.values in
-    (omega arith, begins)
+pub put_cells-requires-clause-room : goal.put_cells-requires-clause-room
+put_cells-requires-clause-room c = omega (arith, bits_fit c.args.netlist.now.inputs c.args.input.now c.requires.input, ap cell_nets c.requires.gates)
 
-pub put_cell-next-requires-clause-room : goal.put_cell-next-requires-clause-room
-put_cell-next-requires-clause-room c = omega (arith, walk_room _ _ _ _ _ _ c.loop-i.invariant.1 c.cell.ensures.cell)
-
-pub put_cell-next-requires-clause-there : goal.put_cell-next-requires-clause-there
-put_cell-next-requires-clause-there c = walk_reads _ _ _ _ _ _ c.loop-i.invariant.1 c.cell.ensures.cell
-
-pub loop-i-preserved : goal.loop-i-preserved
-loop-i-preserved c =
-    (omega arith, walk_on _ _ _ _ _ _ _ _ c.loop-i.invariant.1 c.cell.ensures.cell c.put_cell-next.ensures.next c.put_cell-next.ensures.values)
+pub put_cells-requires-clause-there : goal.put_cells-requires-clause-there
+put_cells-requires-clause-there c =
+    let first : c.put_front-first.result ≡ first_net c.args.netlist.now.inputs c.args.netlist.now.flops = omega (arith, bits_fit c.args.netlist.now.inputs c.args.input.now c.requires.input) in
+    rw (first, c.requires.gates) c.requires.formed.begun.cells
 
 pub returns : goal.returns
 returns c =
-    let all = walk_ends _ _ _ _ _ c.loop-i.invariant.1 (omega arith) (omega arith) in
-    rw all (c.net_after_net.ensures c.args.netlist.now c.args.input.now c.args.state.now c.cell_count-i-end.ensures.formed c.requires.input c.requires.state)
+    let front = false ∷ true ∷ words_bits c.args.input.now ++ c.args.state.now in
+    let all : c.put_cells.new.nets ≡ walked c.args.netlist.now c.args.input.now c.args.state.now =
+    c.put_cells.ensures ∙ ap (λ l. all_values l c.args.gates.now) c.put_front-first.ensures.values ∙ ap (all_values front) c.requires.gates in
+    rw all (c.net_after_net.ensures c.args.netlist.now c.args.input.now c.args.state.now c.requires.formed c.requires.input c.requires.state)

@@ -1,29 +1,34 @@
-use Rattle.std.proofs.Common.{◌≡◌, ◌∙◌, [], ◌∷◌, get_or, Err, ℕ, List, refl, ap, arith}
-use Rattle.std.proofs.lemmas.Result.{err_from_is_err_and}
-use Rattle.n_cells.specs.declared.netlist.Stored.TheVariants as stored
+use Rattle.std.proofs.Common.{Some, subst}
+use Rattle.lz_lines.specs.Forms.{Anything, Parted}
+use Rattle.lz_lines.proofs.Forms.{after_breaks, after_obtains, after_start, after_then, then_broken}
+use Rattle.n_cells.specs.declared.format.Format.TheVariants as format_
+use Rattle.n_text.specs.declared.line.Key.TheVariants as key
 use Rattle.n_text.specs.declared.line.Line.TheVariants as line
-use Rattle.n_text.proofs.LineKinds.{carry_is, brings_err}
+use Rattle.n_text.specs.Grammar as g
+use Rattle.n_text.specs.Grammar.{most, IsEnable, IsNet, IsNext, Tail}
+use Rattle.n_text.proofs.Parts as parts
+use Rattle.n_cells.specs.declared.netlist.Stored.{Stored}
+use Rattle.n_cells.specs.declared.netlist.Stored.TheVariants as stored
+use Rattle.lz_lines.specs.Forms.{Obtains}
+use Rattle.n_text.specs.Grammar.{Ends}
 use Rattle.n_text.proofs.lines.read_carry.Goals as goal
 
-pub returns-in_err-rest-clause-only : goal.returns-in_err-rest-clause-only
-returns-in_err-rest-clause-only c l rest r =
-    let i = carry_is _ l rest r in
-    let p = err_from_is_err_and c.from_residual.result c.from_residual.ensures.1 in
-    brings_err _ _ c.from_residual.result _ l rest (p.1 ∙ ap Err p.2)
-    (c.in_err-rest.ensures.only (i.a ∷ i.b ∷ i.c ∷ []) (10 ∷ rest) (omega arith) (omega arith) i.below (refl, λ less. absurd (omega (arith, less))) i.text)
+pub returns-in_err-a : goal.returns-in_err-a
+returns-in_err-a c =
+    parts.hand_broken _ _ _ _ _ c.from_residual.result _ c.from_residual.ensures.1
+    (after_breaks (after_start (Tail format_.Two key.Carry) Anything c.args.bytes.now) (then_broken (IsNet) Parted (g.CarrySecond) Anything parts.second_some (λ a v text behind is d. parts.net_parted (g.CarryLast a) v text behind is) c.in_err-a.ensures.reads))
 
-pub returns-in_err-rest-2-clause-only : goal.returns-in_err-rest-2-clause-only
-returns-in_err-rest-2-clause-only c l rest r =
-    let i = carry_is _ l rest r in
-    let nets = c.in_ok-rest.ensures.only (i.a ∷ i.b ∷ i.c ∷ []) (10 ∷ rest) (omega arith) (omega arith) i.below (refl, λ less. absurd (omega (arith, less))) i.text in
-    absurd (c.in_err-rest-2.ensures.only rest nets.1)
+pub returns-in_err-b : goal.returns-in_err-b
+returns-in_err-b c =
+    parts.hand_broken _ _ _ _ _ c.from_residual-in_err-b.result _ c.from_residual-in_err-b.ensures.1
+    (after_breaks (after_then IsNet Parted g.CarrySecond (after_start (Tail format_.Two key.Carry) Anything c.args.bytes.now) (λ a v text behind is d. parts.net_parted (g.CarryLast a) v text behind is) c.in_ok-a.ensures.reads) (then_broken (IsNet) Parted (g.CarryLast c.in_ok-a.a) Anything (parts.last_some c.in_ok-a.a) (λ a v text behind is d. parts.net_parted (g.CarryEnd c.in_ok-a.a a) v text behind is) c.in_err-b.ensures.reads))
 
-pub returns-clause-only : goal.returns-clause-only
-returns-clause-only c l rest r =
-    let i = carry_is _ l rest r in
-    let nets = c.in_ok-rest.ensures.only (i.a ∷ i.b ∷ i.c ∷ []) (10 ∷ rest) (omega arith) (omega arith) i.below (refl, λ less. absurd (omega (arith, less))) i.text in
-    let a : c.index.result.now ≡ i.a = c.index.ensures ∙ ap (λ (ns : List ℕ). get_or ns 0 c.index.result.now) nets.0 in
-    let b : c.index-2.result.now ≡ i.b = c.index-2.ensures ∙ ap (λ (ns : List ℕ). get_or ns 1 c.index-2.result.now) nets.0 in
-    let d : c.index-3.result.now ≡ i.c = c.index-3.ensures ∙ ap (λ (ns : List ℕ). get_or ns 2 c.index-3.result.now) nets.0 in
-    let same : c.carry.result ≡ stored.Carry i.a i.b i.c = c.carry.ensures ∙ (λ k. stored.Carry (a k) (b k) (d k)) in
-    (ap line.Cell same ∙ i.is, c.in_ok-rest-2.ensures.only rest nets.1)
+pub returns-in_err-c : goal.returns-in_err-c
+returns-in_err-c c =
+    parts.hand_broken _ _ _ _ _ c.from_residual-in_err-c.result _ c.from_residual-in_err-c.ensures.1
+    (after_breaks (after_then IsNet Parted (g.CarryLast c.in_ok-a.a) (after_then IsNet Parted g.CarrySecond (after_start (Tail format_.Two key.Carry) Anything c.args.bytes.now) (λ a v text behind is d. parts.net_parted (g.CarryLast a) v text behind is) c.in_ok-a.ensures.reads) (λ a v text behind is d. parts.net_parted (g.CarryEnd c.in_ok-a.a a) v text behind is) c.in_ok-b.ensures.reads) (then_broken (IsNet) Parted (g.CarryEnd c.in_ok-a.a c.in_ok-b.b) Anything (λ a text is. parts.some_end (Some (line.Cell (stored.Carry c.in_ok-a.a c.in_ok-b.b a)))) (λ a v text behind is d. parts.ends_parted (Some (line.Cell (stored.Carry c.in_ok-a.a c.in_ok-b.b a))) v text behind is) c.in_err-c.ensures.reads))
+
+pub returns : goal.returns
+returns c =
+    after_obtains _ _ c.end_line.result (after_then IsNet Parted (g.CarryEnd c.in_ok-a.a c.in_ok-b.b) (after_then IsNet Parted (g.CarryLast c.in_ok-a.a) (after_then IsNet Parted g.CarrySecond (after_start (Tail format_.Two key.Carry) Anything c.args.bytes.now) (λ a v text behind is d. parts.net_parted (g.CarryLast a) v text behind is) c.in_ok-a.ensures.reads) (λ a v text behind is d. parts.net_parted (g.CarryEnd c.in_ok-a.a a) v text behind is) c.in_ok-b.ensures.reads) (λ a v text behind is d. parts.ends_parted (Some (line.Cell (stored.Carry c.in_ok-a.a c.in_ok-b.b a))) v text behind is) c.in_ok-c.ensures.reads)
+    (subst (λ (s : Stored). Obtains (Ends (Some (line.Cell s))) Anything (λ r. r.0) (λ r. r.1.now) c.in_ok-c.rest.now c.end_line.result) c.carry.ensures c.end_line.ensures)

@@ -1,35 +1,29 @@
-use Rattle.std.proofs.Common.{◌≡◌, ◌∙◌, ◌++◌, ◌==◌, ◌∷◌, refl, ap, arith}
-use Rattle.lz_lines.specs.Fields.{number}
+use Rattle.std.proofs.Common.{Some}
+use Rattle.lz_lines.specs.Fields.{IsBit}
+use Rattle.lz_lines.specs.Forms.{Anything, Parted}
+use Rattle.lz_lines.proofs.Forms.{after_breaks, after_obtains, after_start, after_then, then_broken}
+use Rattle.n_text.specs.declared.line.Key.TheVariants as key
 use Rattle.n_text.specs.declared.line.Line.TheVariants as line
-use Rattle.n_text.proofs.LineKinds.{flop_is, bit_of, bit_small, digit_of, bit_again, flop_read}
+use Rattle.n_text.specs.Grammar as g
+use Rattle.n_text.specs.Grammar.{most, IsEnable, IsNet, IsNext, Tail}
+use Rattle.n_text.proofs.Parts as parts
 use Rattle.n_text.proofs.lines.read_flop.Goals as goal
 
-pub returns-in_err-bit-clause-only : goal.returns-in_err-bit-clause-only
-returns-in_err-bit-clause-only c l rest r =
-    let i = flop_is _ l rest r in
-    absurd (c.in_err-bit.ensures.only (bit_of i.flop.first) _ (omega arith) (bit_small i.flop.first) refl (i.text ∙ ap (λ b. b ++ (number i.flop.net ++ 10 ∷ rest)) (digit_of i.flop.first)))
+pub returns-in_err-first : goal.returns-in_err-first
+returns-in_err-first c =
+    parts.hand_broken _ _ _ _ _ c.from_residual.result _ c.from_residual.ensures.1
+    (after_breaks (after_start (Tail c.args.format key.Flop) Anything c.args.bytes.now) (then_broken (IsBit) Anything (g.FlopNet c.args.format) Anything (parts.net_some c.args.format) (λ a v text behind is d. tt) c.in_err-first.ensures.reads))
 
-pub returns-in_err-net-clause-only : goal.returns-in_err-net-clause-only
-returns-in_err-net-clause-only c l rest r =
-    let i = flop_is _ l rest r in
-    let bit = c.in_ok-bit.ensures.only (bit_of i.flop.first) _ (omega arith) (bit_small i.flop.first) refl (i.text ∙ ap (λ b. b ++ (number i.flop.net ++ 10 ∷ rest)) (digit_of i.flop.first)) in
-    absurd (c.in_err-net.ensures.only i.flop.net _ (omega arith) (omega (arith, i.below)) refl bit.1)
+pub returns-in_err-net : goal.returns-in_err-net
+returns-in_err-net c =
+    parts.hand_broken _ _ _ _ _ c.from_residual-in_err-net.result _ c.from_residual-in_err-net.ensures.1
+    (after_breaks (after_then IsBit Anything (g.FlopNet c.args.format) (after_start (Tail c.args.format key.Flop) Anything c.args.bytes.now) (λ a v text behind is d. tt) c.in_ok-first.ensures.reads) (then_broken (IsNet) Parted (g.FlopEnable c.args.format c.in_ok-first.first) Anything (parts.enable_some c.args.format c.in_ok-first.first) (λ a v text behind is d. parts.enable_parted c.args.format c.in_ok-first.first a v text behind is) c.in_err-net.ensures.reads))
 
-pub returns-in_err-rest-clause-only : goal.returns-in_err-rest-clause-only
-returns-in_err-rest-clause-only c l rest r =
-    let i = flop_is _ l rest r in
-    let bit = c.in_ok-bit.ensures.only (bit_of i.flop.first) _ (omega arith) (bit_small i.flop.first) refl (i.text ∙ ap (λ b. b ++ (number i.flop.net ++ 10 ∷ rest)) (digit_of i.flop.first)) in
-    let net = c.in_ok-net.ensures.only i.flop.net _ (omega arith) (omega (arith, i.below)) refl bit.1 in
-    absurd (c.in_err-rest.ensures.only rest net.1)
+pub returns-in_err-enable : goal.returns-in_err-enable
+returns-in_err-enable c =
+    parts.hand_on _ _ _ _ _ _ _ _ _ _ c.from_residual-in_err-enable.result c.read_enable.result _ c.from_residual-in_err-enable.ensures.1 c.in_err-enable.was c.read_enable.ensures
+    (λ l b. after_breaks (after_then IsNet Parted (g.FlopEnable c.args.format c.in_ok-first.first) (after_then IsBit Anything (g.FlopNet c.args.format) (after_start (Tail c.args.format key.Flop) Anything c.args.bytes.now) (λ a v text behind is d. tt) c.in_ok-first.ensures.reads) (λ a v text behind is d. parts.enable_parted c.args.format c.in_ok-first.first a v text behind is) c.in_ok-net.ensures.reads) (then_broken (IsEnable c.args.format) Parted (g.FlopEnd c.in_ok-first.first c.in_ok-net.net) Anything (λ a text is. parts.some_end (Some (line.Flop (record { first = c.in_ok-first.first; net = c.in_ok-net.net; enable = a })))) (λ a v text behind is d. parts.ends_parted (Some (line.Flop (record { first = c.in_ok-first.first; net = c.in_ok-net.net; enable = a }))) v text behind is) b))
 
-pub returns-clause-found : goal.returns-clause-found
-returns-clause-found c = flop_read _ _ _ _ _ _ c.in_ok-bit.ensures.found.1 c.in_ok-net.ensures.found.1 c.in_ok-bit.ensures.found.2 c.in_ok-net.ensures.found.2 c.in_ok-rest.ensures.found
-
-pub returns-clause-only : goal.returns-clause-only
-returns-clause-only c l rest r =
-    let i = flop_is _ l rest r in
-    let bit = c.in_ok-bit.ensures.only (bit_of i.flop.first) _ (omega arith) (bit_small i.flop.first) refl (i.text ∙ ap (λ b. b ++ (number i.flop.net ++ 10 ∷ rest)) (digit_of i.flop.first)) in
-    let net = c.in_ok-net.ensures.only i.flop.net _ (omega arith) (omega (arith, i.below)) refl bit.1 in
-    let first : (c.in_ok-bit.bit == 1) ≡ i.flop.first = ap (λ b. b == 1) bit.0 ∙ bit_again i.flop.first in
-    let same : record { first = (c.in_ok-bit.bit == 1); net = c.in_ok-net.net } ≡ i.flop = λ k. record { first = first k; net = net.0 k } in
-    (ap line.Flop same ∙ i.is, c.in_ok-rest.ensures.only rest net.1)
+pub returns : goal.returns
+returns c =
+    after_obtains _ _ c.end_line.result (after_then (IsEnable c.args.format) Parted (g.FlopEnd c.in_ok-first.first c.in_ok-net.net) (after_then IsNet Parted (g.FlopEnable c.args.format c.in_ok-first.first) (after_then IsBit Anything (g.FlopNet c.args.format) (after_start (Tail c.args.format key.Flop) Anything c.args.bytes.now) (λ a v text behind is d. tt) c.in_ok-first.ensures.reads) (λ a v text behind is d. parts.enable_parted c.args.format c.in_ok-first.first a v text behind is) c.in_ok-net.ensures.reads) (λ a v text behind is d. parts.ends_parted (Some (line.Flop (record { first = c.in_ok-first.first; net = c.in_ok-net.net; enable = a }))) v text behind is) c.in_ok-enable.ensures) c.end_line.ensures

@@ -1,5 +1,5 @@
 use Rattle.std.proofs.Common.{List, ℕ, ◌++◌, ◌∷◌, [], subst}
-use Rattle.n_text.specs.Met.{Met}
+use Rattle.lz_base.specs.Met.{Met}
 use Rattle.n_text.proofs.names.judge_input.Goals as goal
 
 pub returns-clause-met : goal.returns-clause-met

@@ -4,7 +4,7 @@ use Rattle.std.proofs.lemmas.Option.{slice_get_read}
 use Rattle.std.proofs.lemmas.Result.{err_from_is_err_and}
 use Rattle.lz_base.specs.declared.name.Port.{Port}
 use Rattle.n_cells.specs.Text.{input_line}
-use Rattle.n_text.specs.Met.{Met}
+use Rattle.lz_base.specs.Met.{Met}
 use Rattle.n_text.specs.Referred.{wrong_inputs}
 use Rattle.n_text.proofs.Adding.{drop_next}
 use Rattle.n_text.proofs.MetNames.{judges_more, inputs_next, inputs_step, flat_length}

@@ -1,6 +1,6 @@
 use Rattle.std.proofs.Common.{◌≡◌, ◌+◌, drop, length, flat_map, List, ℕ}
 use Rattle.n_cells.specs.Text.{input_line}
-use Rattle.n_text.specs.Met.{Met}
+use Rattle.lz_base.specs.Met.{Met}
 use Rattle.n_text.proofs.MetNames.{NamesGo}
 use Rattle.n_text.proofs.names.judge_inputs.Given as goal
 

@@ -1,7 +1,7 @@
 use Rattle.std.proofs.Common.{◌≡◌, ◌+◌, drop, length, List, ℕ}
 use Rattle.n_cells.specs.Netlist.{FillOutputs}
 use Rattle.n_cells.specs.Text.{output_lines}
-use Rattle.n_text.specs.Met.{Met}
+use Rattle.lz_base.specs.Met.{Met}
 use Rattle.n_text.specs.Referred.{wrong_outputs}
 use Rattle.n_text.proofs.names.judge_outputs.Given as goal
 

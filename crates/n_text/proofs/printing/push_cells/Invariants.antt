@@ -1,6 +1,6 @@
 use Rattle.std.proofs.Common.{◌≡◌, ◌++◌, drop, take, flat_map}
 use Rattle.n_cells.specs.Text.{cell_line}
-use Rattle.n_text.specs.Form.{bound, CellsBelow}
+use Rattle.n_cells.specs.Form.{bound, CellsBelow}
 use Rattle.n_text.proofs.printing.push_cells.Given as goal
 
 abbrev pub invariant-loop-i : goal.invariant-loop-i

@@ -8,5 +8,5 @@ loop-flop-preserved c =
     let within : c.loop-flop.flop-index < length c.args.flops.now = omega arith in
     record {
       text = grind (arith, common_steps);
-      below = flops_next _ c.args.flops.now c.loop-flop.flop-index _ c.loop-flop.invariant.below within c.in_ok-push_flop.ensures.below;
+      below = flops_next _ c.args.flops.now c.loop-flop.flop-index _ c.loop-flop.invariant.below within c.in_ok-push_flop.ensures.below c.in_ok-push_flop.ensures.enable;
     }

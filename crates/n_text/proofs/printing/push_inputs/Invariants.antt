@@ -1,6 +1,6 @@
 use Rattle.std.proofs.Common.{◌≡◌, ◌++◌, take, flat_map}
 use Rattle.n_cells.specs.Text.{input_line}
-use Rattle.n_text.specs.Form.{PortsNamed}
+use Rattle.n_cells.specs.Form.{PortsNamed}
 use Rattle.n_text.proofs.printing.push_inputs.Given as goal
 
 abbrev pub invariant-loop-port : goal.invariant-loop-port

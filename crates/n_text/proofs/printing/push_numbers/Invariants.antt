@@ -1,7 +1,7 @@
 use Rattle.std.proofs.Common.{◌≡◌, ◌++◌, take, flat_map}
 use Rattle.lz_lines.specs.Fields.{number}
 use Rattle.n_cells.specs.Netlist.{AllBelow}
-use Rattle.n_text.specs.Form.{bound}
+use Rattle.n_cells.specs.Form.{bound}
 use Rattle.n_text.proofs.printing.push_numbers.Given as goal
 
 abbrev pub invariant-loop-n : goal.invariant-loop-n

@@ -1,7 +1,7 @@
 use Rattle.std.proofs.Common.{◌≡◌, ◌++◌, drop, take}
 use Rattle.n_cells.specs.Text.{output_lines}
 use Rattle.n_cells.specs.Netlist.{OutputsBelow}
-use Rattle.n_text.specs.Form.{bound, PortsNamed}
+use Rattle.n_cells.specs.Form.{bound, PortsNamed}
 use Rattle.n_text.proofs.printing.push_outputs.Given as goal
 
 abbrev pub invariant-loop-i : goal.invariant-loop-i

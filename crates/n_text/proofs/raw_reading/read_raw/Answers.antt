@@ -1,26 +1,39 @@
-use Rattle.std.proofs.Common.{◌∙◌, Err, ap, sym, refl}
-use Rattle.std.proofs.lemmas.Result.{err_from_is_err_and}
-use Rattle.n_text.proofs.Wholes.{makes_err, text_is, text_found}
+use Rattle.std.proofs.Common.{List, ℕ, subst}
+use Rattle.lz_lines.specs.Fields.{IsNameField, IsWord, line_end}
+use Rattle.lz_lines.specs.Forms.{Anything, Breaks, Nothing, Parted, Takes, Then}
+use Rattle.lz_lines.proofs.Forms.{after_breaks, after_obtains, after_then, then_broken}
+use Rattle.n_text.specs.Grammar as g
+use Rattle.n_text.specs.Grammar.{Rest}
+use Rattle.n_text.specs.Raw.{bare, head}
+use Rattle.n_text.proofs.Parts.{hand_broken, hand_on, behind_parted, behind_some, name_some, rest_some}
+use Rattle.n_text.proofs.Texts.{after_whole}
 use Rattle.n_text.proofs.raw_reading.read_raw.Goals as goal
 
-pub returns-in_err-rest-clause-only : goal.returns-in_err-rest-clause-only
-returns-in_err-rest-clause-only c n form text = absurd (c.in_err-rest.ensures.only _ (text ∙ text_is n))
+pub returns-in_err-rest : goal.returns-in_err-rest
+returns-in_err-rest c =
+    let broken = subst (λ (w : List ℕ). Breaks (IsWord w) Anything c.args.bytes.now c.in_err-rest.field-0.0.left) c.head.ensures c.in_err-rest.ensures.reads in
+    hand_broken _ _ _ _ _ c.from_residual.result _ c.from_residual.ensures.1
+    (after_breaks (after_whole c.args.format c.args.bytes.now) (then_broken (IsWord (head c.args.format)) Anything (λ w. Then IsNameField (g.Behind c.args.format)) Nothing (λ w text is. name_some c.args.format) (λ a v text behind is d. tt) broken))
 
-pub returns-in_err-name-clause-only : goal.returns-in_err-name-clause-only
-returns-in_err-name-clause-only c n form text =
-    let p = err_from_is_err_and c.from_residual-in_err-name.result c.from_residual-in_err-name.ensures.1 in
-    makes_err _ c.from_residual-in_err-name.result _ n (p.1 ∙ ap Err p.2) (c.in_err-name.ensures.only n.name _ form.name refl (c.in_ok-rest.ensures.only _ (text ∙ text_is n)))
+pub returns-in_err-name : goal.returns-in_err-name
+returns-in_err-name c =
+    let headed = subst (λ (w : List ℕ). Takes (IsWord w) Anything c.args.bytes.now tt c.in_ok-rest.rest.now) c.head.ensures c.in_ok-rest.ensures.reads in
+    let one = after_then (IsWord (head c.args.format)) Anything (λ w. Then IsNameField (g.Behind c.args.format)) (after_whole c.args.format c.args.bytes.now) (λ a v text behind is d. tt) headed in
+    hand_on _ _ _ _ _ _ _ _ _ _ c.from_residual-in_err-name.result c.read_copy.result _ c.from_residual-in_err-name.ensures.1 c.in_err-name.was c.read_copy.ensures
+    (λ l b. after_breaks one (then_broken IsNameField Parted (g.Behind c.args.format) Nothing (λ name text is. behind_some c.args.format name) (λ a v text behind is d. behind_parted c.args.format a v text behind is) b))
 
-pub returns-in_err-rest-2-clause-only : goal.returns-in_err-rest-2-clause-only
-returns-in_err-rest-2-clause-only c n form text =
-    let name = c.in_ok-name.ensures.only n.name _ form.name refl (c.in_ok-rest.ensures.only _ (text ∙ text_is n)) in
-    absurd (c.in_err-rest-2.ensures.only _ name.1)
+pub returns-in_err-rest-2 : goal.returns-in_err-rest-2
+returns-in_err-rest-2 c =
+    let headed = subst (λ (w : List ℕ). Takes (IsWord w) Anything c.args.bytes.now tt c.in_ok-rest.rest.now) c.head.ensures c.in_ok-rest.ensures.reads in
+    let one = after_then (IsWord (head c.args.format)) Anything (λ w. Then IsNameField (g.Behind c.args.format)) (after_whole c.args.format c.args.bytes.now) (λ a v text behind is d. tt) headed in
+    let two = after_then IsNameField Parted (g.Behind c.args.format) one (λ a v text behind is d. behind_parted c.args.format a v text behind is) c.in_ok-name.ensures in
+    hand_broken _ _ _ _ _ c.from_residual-in_err-rest-2.result _ c.from_residual-in_err-rest-2.ensures.1
+    (after_breaks two (then_broken (IsWord line_end) Anything (λ w. Rest c.args.format (bare c.in_ok-name.name)) Nothing (λ w text is. rest_some c.args.format c.in_ok-name.name) (λ a v text behind is d. tt) c.in_err-rest-2.ensures.reads))
 
-pub returns-clause-found : goal.returns-clause-found
-returns-clause-found c = text_found _ _ _ _ _ _ c.in_ok-rest.ensures.found c.in_ok-name.ensures.found.1 c.in_ok-rest-2.ensures.found c.read_lines.ensures.found
-
-pub returns-clause-only : goal.returns-clause-only
-returns-clause-only c n form text =
-    let name = c.in_ok-name.ensures.only n.name _ form.name refl (c.in_ok-rest.ensures.only _ (text ∙ text_is n)) in
-    let rest = c.in_ok-rest-2.ensures.only _ name.1 in
-    c.read_lines.ensures.only n form (sym name.0) rest
+pub returns : goal.returns
+returns c =
+    let headed = subst (λ (w : List ℕ). Takes (IsWord w) Anything c.args.bytes.now tt c.in_ok-rest.rest.now) c.head.ensures c.in_ok-rest.ensures.reads in
+    let one = after_then (IsWord (head c.args.format)) Anything (λ w. Then IsNameField (g.Behind c.args.format)) (after_whole c.args.format c.args.bytes.now) (λ a v text behind is d. tt) headed in
+    let two = after_then IsNameField Parted (g.Behind c.args.format) one (λ a v text behind is d. behind_parted c.args.format a v text behind is) c.in_ok-name.ensures in
+    let three = after_then (IsWord line_end) Anything (λ w. Rest c.args.format (bare c.in_ok-name.name)) two (λ a v text behind is d. tt) c.in_ok-rest-2.ensures.reads in
+    after_obtains _ _ c.read_lines.result three c.read_lines.ensures

@@ -1,17 +1,12 @@
-use Rattle.std.proofs.Common.{◌≡◌, ◌≤◌, ◌++◌, List, length, flat_map}
-use Rattle.lz_base.specs.WordValue.{WordValue}
-use Rattle.t_trace.specs.Texts.{IsText, cycle_line, cycles_text}
-use Rattle.t_trace.specs.Widths.{CyclesFit}
-use Rattle.t_trace.proofs.Cycles.{CyclesGo}
+use Rattle.std.proofs.Common.{length}
+use Rattle.lz_lines.specs.Forms.{Nothing}
+use Rattle.lz_lines.proofs.Forms.{After}
+use Rattle.t_trace.specs.Lines.{IsCycles, head_word}
+use Rattle.t_trace.proofs.Cycles.{CycleLines}
 use Rattle.t_trace.proofs.reading.read_cycles.Given as goal
 
 abbrev pub invariant-lines : goal.invariant-lines
-invariant-lines l = record {
-  fit : CyclesFit l.fn.widths l.cycles;
-  split : l.fn.bytes ≡ l.fn.first ++ flat_map (cycle_line l.fn.key) l.cycles ++ l.left;
-  only : (cycles : List (List WordValue)) → IsText (cycles_text l.fn.first l.fn.key) l.fn.widths l.fn.bytes cycles → CyclesGo l.fn.widths l.fn.key l.left l.cycles cycles;
-  within : length l.left ≤ length l.fn.bytes;
-}
+invariant-lines l = After (IsCycles l.fn.first (head_word l.fn.head) l.fn.widths) Nothing l.fn.bytes (CycleLines l.fn.widths (head_word l.fn.head) l.cycles) l.left
 
 abbrev pub decreases-lines : goal.decreases-lines
 decreases-lines l = length l.left

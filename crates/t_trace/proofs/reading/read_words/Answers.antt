@@ -1,9 +1,15 @@
-use Rattle.std.proofs.Common.{ℕ, ◌+◌, ◌<◌, ◌++◌, [], ◌∷◌, List, length, get_or, take, drop, arith, subst, sym, ◌≤◌}
-use Rattle.std.proofs.lemmas.List.{take_more, drop_more, drop_all}
+use Rattle.std.proofs.Common.{ℕ, ◌+◌, ◌<◌, ◌≤◌, ◌∙◌, Err, List, length, get_or, drop, arith, ap, subst, sym}
+use Rattle.std.proofs.lemmas.List.{drop_more, drop_all}
+use Rattle.std.proofs.lemmas.Result.{err_from_is_err_and}
 use Rattle.lz_base.specs.WordValue.{WordValue}
-use Rattle.t_trace.specs.Widths.{FitWidths}
-use Rattle.t_trace.proofs.Words.{width_low, width_high, fit_more, fields_more, Goes, goes_step, goes_end}
+use Rattle.lz_lines.specs.Forms.{Anything}
+use Rattle.lz_lines.proofs.Forms.{After, obtains_err}
+use Rattle.t_trace.specs.Lines.{AreWords}
+use Rattle.t_trace.proofs.Words.{AreRest, width_low, width_high, rest_start, rest_read, rest_broken, rest_end}
 use Rattle.t_trace.proofs.reading.read_words.Goals as goal
+
+pub loop-width-init : goal.loop-width-init
+loop-width-init c = rw c.in_ok-words.ensures.items (rest_start c.args.widths.now c.args.bytes.now)
 
 pub read_hex-requires : goal.read_hex-requires
 read_hex-requires c =
@@ -18,27 +24,31 @@ invariant_of-push c =
     let within : c.loop-width.width-index < length c.args.widths.now = omega arith in
     (width_low c.args.widths.now c.loop-width.width-index c.requires within, width_high c.args.widths.now c.loop-width.width-index c.requires within, c.in_ok-value.ensures.found.0)
 
-pub loop-width-preserved : goal.loop-width-preserved
-loop-width-preserved c =
-    let within : c.loop-width.width-index < length c.args.widths.now = omega arith in
+pub returns-in_err-value : goal.returns-in_err-value
+returns-in_err-value c =
     let widths = c.args.widths.now in
     let i = c.loop-width.width-index in
-    let width = get_or widths i 0 in
-    let w : WordValue = record { width = width; value = c.in_ok-value.value } in
-    let pushed = c.in_ok-push.ensures.ok in
-    record {
-      fit = subst (λ (ws : List WordValue). FitWidths (take (i + 1) widths) ws) (sym pushed)
-          (subst (λ (xs : List ℕ). FitWidths xs (c.loop-width.words ++ w ∷ [])) (sym (take_more widths i 0 within))
-          (fit_more (take i widths) c.loop-width.words width c.in_ok-value.value c.loop-width.invariant.fit c.in_ok-value.ensures.found.0));
-      split = rw pushed (fields_more c.loop-width.words w _ _ _ c.loop-width.invariant.split c.in_ok-value.ensures.found.1);
-      only = λ words rest fit split.
-          subst (λ (ws : List WordValue). Goes (drop (i + 1) widths) ws c.in_ok-value.rest.now words rest) (sym pushed)
-          (goes_step width (drop (i + 1) widths) c.loop-width.words c.in_ok-value.value c.loop-width.left.now c.in_ok-value.rest.now rest words c.in_ok-value.ensures.only
-          (subst (λ (xs : List ℕ). Goes xs c.loop-width.words c.loop-width.left.now words rest) (drop_more widths i 0 within) (c.loop-width.invariant.only words rest fit split)));
-    }
+    let within : i < length widths = omega arith in
+    let p = err_from_is_err_and c.from_residual-in_err-value.result c.from_residual-in_err-value.ensures.1 in
+    obtains_err _ _ _ _ _ c.from_residual-in_err-value.result _ (p.1 ∙ ap Err p.2)
+    (rest_broken widths (get_or widths i 0) (drop (i + 1) widths) c.loop-width.words.items
+    (subst (λ (xs : List ℕ). After (AreWords widths) Anything c.args.bytes.now (AreRest xs c.loop-width.words.items) c.loop-width.left.now) (drop_more widths i 0 within) c.loop-width.invariant)
+    c.in_err-value.ensures.reads)
 
-pub returns-clause-only : goal.returns-clause-only
-returns-clause-only c words rest fit split =
-    let past : length c.args.widths.now ≤ c.loop-width.width-index = omega arith in
-    goes_end c.loop-width.words c.loop-width.left.now rest words
-    (subst (λ (xs : List ℕ). Goes xs c.loop-width.words c.loop-width.left.now words rest) (drop_all c.loop-width.width-index c.args.widths.now past) (c.loop-width.invariant.only words rest fit split))
+pub loop-width-preserved : goal.loop-width-preserved
+loop-width-preserved c =
+    let widths = c.args.widths.now in
+    let i = c.loop-width.width-index in
+    let within : i < length widths = omega arith in
+    subst (λ (ws : List WordValue). After (AreWords widths) Anything c.args.bytes.now (AreRest (drop (i + 1) widths) ws) c.in_ok-value.rest.now) (sym c.in_ok-push.ensures.items)
+    (rest_read widths (get_or widths i 0) c.in_ok-value.value (drop (i + 1) widths) c.loop-width.words.items
+    (subst (λ (xs : List ℕ). After (AreWords widths) Anything c.args.bytes.now (AreRest xs c.loop-width.words.items) c.loop-width.left.now) (drop_more widths i 0 within) c.loop-width.invariant)
+    c.in_ok-value.ensures.reads)
+
+pub returns : goal.returns
+returns c =
+    let widths = c.args.widths.now in
+    let past : length widths ≤ c.loop-width.width-index = omega arith in
+    rw c.from_vec.ensures
+    (rest_end widths c.loop-width.words.items
+    (subst (λ (xs : List ℕ). After (AreWords widths) Anything c.args.bytes.now (AreRest xs c.loop-width.words.items) c.loop-width.left.now) (drop_all c.loop-width.width-index widths past) c.loop-width.invariant))

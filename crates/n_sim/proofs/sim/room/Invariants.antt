@@ -1,9 +1,0 @@
-use Rattle.std.proofs.Common.{◌≡◌, ◌+◌, length, drop}
-use Rattle.n_cells.specs.Netlist.{port_bits, cell_nets, net_count}
-use Rattle.n_sim.proofs.sim.room.Given as goal
-
-abbrev pub invariant-loop-port : goal.invariant-loop-port
-invariant-loop-port l = length l.nets.items + port_bits (drop l.port-index l.port-items) ≡ 2 + port_bits l.port-items
-
-abbrev pub invariant-loop-i : goal.invariant-loop-i
-invariant-loop-i l = length l.nets.items + cell_nets (drop l.i l.netlist.cells) ≡ net_count l.netlist

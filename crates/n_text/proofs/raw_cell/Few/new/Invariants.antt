@@ -1,5 +1,0 @@
-use Rattle.std.proofs.Common.{◌≡◌, length, take}
-use Rattle.n_text.proofs.raw_cell.Few.new.Given as goal
-
-abbrev pub invariant-loop-i : goal.invariant-loop-i
-invariant-loop-i l = (length l.nets ≡ 4) × (take l.i l.nets ≡ take l.i l.leaves)

@@ -1,0 +1,11 @@
+pub mod NumberRows
+pub mod OperatorRows
+pub mod Variants
+pub mod ExpressionRows
+pub mod DesignRows
+pub mod RealisticRows
+pub mod RuleRows
+pub mod NameRows
+pub mod Alone
+pub mod ConstantRows
+pub mod WeightRows

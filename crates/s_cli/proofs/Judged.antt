@@ -1,21 +1,17 @@
--- The status that the files call for.
-use Rattle.std.proofs.Common.{◌≡◌, ◌<◌, ◌≤◌, ℕ, ◌^◌, List, length, Option, None, Some, refl, ap, subst, arith, inl, inr, ◌∙◌}
-use Rattle.lz_base.specs.Outside.{Told, Stands}
-use Rattle.lz_base.specs.Transfer.{StandsLonger}
+-- The status that a source calls for.
+use Rattle.std.proofs.Common.{◌≡◌, ◌<◌, ◌≤◌, ℕ, List, [], ◌∷◌, length, Err, refl, ap, arith, inl, inr, ◌∙◌}
+use Rattle.lz_base.specs.Limits.{source_limit}
 use Rattle.lz_base.specs.declared.fault.Fault.{Fault}
+use Rattle.lz_base.specs.declared.fault.Stop.{Stop}
+use Rattle.lz_base.specs.declared.fault.Stop.TheVariants as stop
 use Rattle.lz_base.specs.declared.rule.Rule.TheVariants.{E1, E2}
 use Rattle.s_cli.specs.declared.status.Status.TheVariants as status
 use Rattle.v_syntax.specs.declared.token.Token.{Token}
 use Rattle.v_syntax.specs.Tokens.{Lexes, BreaksAt}
-use Rattle.s_flow.specs.Front.{IsMisread, IsBroken}
-use Rattle.s_cli.specs.Answers.{IfTold, IsTranslation, IsJudged}
-
--- what holds of the bytes that stand under a name
-pub told_bytes : (told : Told) (name bytes : List ℕ) (P : List ℕ → Type 0) → Stands told name bytes → P bytes → IfTold told name P
-told_bytes None name bytes P stands holds = tt
-told_bytes (Some content) name bytes P stands holds = λ source is.
-    let same : bytes ≡ source = cc in
-    subst P same holds
+use Rattle.s_flow.specs.Front.{IsMisread, IsBroken, IsRead}
+use Rattle.s_cli.specs.declared.forms.Command.TheVariants as command
+use Rattle.s_cli.specs.Answers.{Decides}
+use Rattle.s_cli.specs.Synthesis.{IsTranslation, IsJudged}
 
 -- A file has one token list or one place where it breaks, and not both.
 pub record OneReading : Type 0 where
@@ -23,7 +19,7 @@ pub record OneReading : Type 0 where
   pub place : (bytes : List ℕ) (a b : ℕ) → BreaksAt bytes a → BreaksAt bytes b → a ≡ b
   pub apart : (bytes : List ℕ) (ts : List Token) (at : ℕ) → Lexes bytes ts → BreaksAt bytes at → ⊥
 
-pub judged_long : (source : List ℕ) → 2 ^ 20 < length source → IsJudged source (status.Refused (record { rule = E1; at = 2 ^ 20 }))
+pub judged_long : (source : List ℕ) → source_limit < length source → IsJudged source (status.Refused (record { rule = E1; at = source_limit }))
 judged_long source longer = record {
   too_long = λ _. inl refl;
   unlexed = λ _ within _. absurd (omega arith);
@@ -42,7 +38,7 @@ judged_done one source output t = record {
 }
 
 -- a fault of the tokens
-judged_misread : OneReading → (source : List ℕ) (fault : Fault) (tokens : List Token) → length source ≤ 2 ^ 20 → Lexes source tokens → IsMisread tokens (length source) fault → IsJudged source (status.Refused fault)
+judged_misread : OneReading → (source : List ℕ) (fault : Fault) (tokens : List Token) → length source ≤ source_limit → Lexes source tokens → IsMisread tokens (length source) fault → IsJudged source (status.Refused fault)
 judged_misread one source fault tokens within lexes (inl refused) = record {
   too_long = λ longer. absurd (omega arith);
   unlexed = λ at _ breaks. absurd (one.apart source tokens at lexes breaks);
@@ -58,7 +54,7 @@ judged_misread one source fault tokens within lexes (inr none) = record {
   small = λ s _ t. absurd (none.none s (rw (one.tokens source tokens t.tokens lexes t.lexed) t.from.small));
 }
 
-pub judged_broken : OneReading → (source : List ℕ) (fault : Fault) → length source ≤ 2 ^ 20 → IsBroken source fault → IsJudged source (status.Refused fault)
+pub judged_broken : OneReading → (source : List ℕ) (fault : Fault) → length source ≤ source_limit → IsBroken source fault → IsJudged source (status.Refused fault)
 judged_broken one source fault within (inl r) = record {
   too_long = λ longer. absurd (omega arith);
   unlexed = λ at _ breaks.
@@ -72,10 +68,14 @@ judged_broken one source fault within (inl r) = record {
 }
 judged_broken one source fault within (inr r) = judged_misread one source fault r.tokens within r.lexed r.misread
 
--- where more than the limit stand under a name, that holds of the bytes there
-pub told_longer : (told : Told) (name : List ℕ) (rest : Option (List ℕ)) → StandsLonger told name (2 ^ 20) rest
-    → IfTold told name (λ source. IsJudged source (status.Refused (record { rule = E1; at = 2 ^ 20 })))
-told_longer None name rest stands = tt
-told_longer (Some content) name rest (bytes, there, longer, left) = λ source is.
-    let same : bytes ≡ source = cc in
-    judged_long source (subst (λ (l : List ℕ). 2 ^ 20 < length l) same longer)
+pub judged_memory : (source : List ℕ) → IsJudged source status.OutOfMemory
+judged_memory source = record { too_long = λ _. inr refl; unlexed = λ _ _ _. inr refl; unparsed = λ _ _ _ _. inr refl; unsupported = λ _ _ _ _ _ _. inr refl; small = λ _ _ _. inr refl }
+
+-- what the front end refuses
+pub front_refused : OneReading → (source : List ℕ) (e : Stop) → length source ≤ source_limit → IsRead source (Err e) → Decides command.Synth (source ∷ []) (Err e)
+front_refused one source (stop.Fault fault) within broken = (inr (within, broken), judged_broken one source fault within broken)
+front_refused one source stop.OutOfMemory within broken = tt
+
+-- and a source that is longer than it may be
+pub longer_refused : (source : List ℕ) → source_limit < length source → Decides command.Synth (source ∷ []) (Err (stop.Fault (record { rule = E1; at = source_limit })))
+longer_refused source longer = (inl (record { longer = longer; fault_is = refl }), judged_long source longer)

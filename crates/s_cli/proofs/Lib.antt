@@ -1,3 +1,4 @@
 pub mod Judged
-pub mod Widths
 pub mod Simulated
+pub mod Texts
+pub mod Upgraded

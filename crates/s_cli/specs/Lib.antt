@@ -1,5 +1,8 @@
 pub mod Words
+pub mod Texts
 pub mod Status
-pub mod Answers
-pub mod Translates
+pub mod Synthesis
 pub mod Simulation
+pub mod Upgrade
+pub mod Answers
+pub mod Reading

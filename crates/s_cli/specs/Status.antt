@@ -5,6 +5,8 @@ use Rattle.std.specs.Io.KnownBytes.{Appends}
 use Rattle.lz_base.specs.Causes.{Rose}
 use Rattle.lz_base.specs.Rules.{rule_text}
 use Rattle.lz_base.specs.declared.fault.Fault.{Fault}
+use Rattle.lz_base.specs.declared.fault.Stop.{Stop}
+use Rattle.lz_base.specs.declared.fault.Stop.TheVariants as stop
 use Rattle.s_cli.specs.declared.status.Status.{Status}
 use Rattle.s_cli.specs.declared.status.Status.TheVariants as status
 
@@ -90,6 +92,21 @@ IsFailure status.OutOfMemory = ⊤
 abbrev pub status_of : {T : Type 0} → Result T Status → Status
 status_of (Ok v) = status.Ok
 status_of (Err s) = s
+
+-- reading files fails with a fault, which is counted, or for want of memory
+abbrev pub CausesTexts : {T : Type 0} → ℕ → ℕ → Result T Status → Type 0
+CausesTexts before now (Ok texts) = now ≡ before
+CausesTexts before now (Err status.Ok) = ⊥
+CausesTexts before now (Err (status.Refused fault)) = ⊥
+CausesTexts before now (Err status.Usage) = ⊥
+CausesTexts before now (Err status.ReadFault) = Rose before now
+CausesTexts before now (Err status.WriteFault) = ⊥
+CausesTexts before now (Err status.OutOfMemory) = now ≡ before
+
+-- the status of a fault in a text, or of memory that was wanting
+abbrev pub status_by : Stop → Status
+status_by (stop.Fault fault) = status.Refused fault
+status_by stop.OutOfMemory = status.OutOfMemory
 
 -- the status is this one, or memory was wanting
 abbrev pub IsUnlessMemory : Status → Status → Type 0

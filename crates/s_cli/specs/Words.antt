@@ -1,37 +1,57 @@
 -- What the words of the command line ask for.
-use Rattle.std.specs.Prelude.{ℕ, List, [], ◌∷◌, codes, Option, None, Some, String, string_bytes, Bool, if◌then◌else◌, ◌==◌}
-use Rattle.std.specs.declared.alloc.Global.{Global}
+use Rattle.std.specs.Prelude.{ℕ, List, [], ◌∷◌, ◌+◌, ◌-◌, ◌*◌, ◌≤◌, ⊤, length, map, take, drop, codes, Option, None, Some, String, string_bytes, Bool, ◌&&◌, ◌==◌, if◌then◌else◌}
 use lib.Pointwise.{pointwise}
+use Rattle.std.specs.declared.alloc.Global.{Global}
+use Rattle.lz_base.specs.Limits.{source_limit, text_limit}
+use Rattle.lz_base.specs.Names.{is_between}
 use Rattle.s_cli.specs.declared.forms.Command.{Command}
 use Rattle.s_cli.specs.declared.forms.Command.TheVariants as command
-use Rattle.s_cli.specs.declared.words.Asked.{Asked}
-use Rattle.s_cli.specs.declared.words.Asked.TheVariants as asked
 
--- a form of words, with the names of its files
-pub data Request : Type 0 where
-  unknown : Request
-  synth : List ℕ → Request
-  simn : List ℕ → List ℕ → Request
+-- the bytes of the words
+abbrev pub bytes_of : List (String Global) → List (List ℕ)
+bytes_of words = map (λ word. string_bytes word) words
+
+abbrev pub lanes_if : Bool → ℕ → Option Command
+lanes_if fits count = if fits then Some (command.Lanes count) else None
+
+-- one or two decimal digits, from 1 to 64
+unfoldable pub lanes_by : List ℕ → Option Command
+lanes_by [] = None
+lanes_by (d ∷ []) = lanes_if (is_between 49 57 d) (d - 48)
+lanes_by (d ∷ e ∷ []) =
+    lanes_if (is_between 48 57 d && is_between 48 57 e && is_between 1 64 ((d - 48) * 10 + (e - 48))) ((d - 48) * 10 + (e - 48))
+lanes_by (d ∷ e ∷ f ∷ more) = None
 
 abbrev pub is_word : String Global → List ℕ → Bool
 is_word word bytes = pointwise ◌==◌ (string_bytes word) bytes
 
--- synth FILE, or simn NETLIST STIM
-abbrev pub request_of : List (String Global) → Request
-request_of [] = unknown
-request_of (a ∷ []) = unknown
-request_of (a ∷ file ∷ []) = if is_word a (codes "synth") then synth (string_bytes file) else unknown
-request_of (a ∷ netlist ∷ stimulus ∷ []) = if is_word a (codes "simn") then simn (string_bytes netlist) (string_bytes stimulus) else unknown
-request_of (a ∷ b ∷ c ∷ d ∷ more) = unknown
+-- the form of words; the first one is compared byte by byte, and names of files are any words
+abbrev pub command_of : List (String Global) → Option Command
+command_of [] = None
+command_of (a ∷ []) = None
+command_of (a ∷ b ∷ []) = if is_word a (codes "synth") then Some command.Synth else (if is_word a (codes "upgrade") then Some command.Upgrade else None)
+command_of (a ∷ b ∷ c ∷ []) = if is_word a (codes "simn") then Some command.Simn else None
+command_of (a ∷ b ∷ c ∷ d ∷ []) = if is_word a (codes "lanes") then lanes_by (string_bytes d) else None
+command_of (a ∷ b ∷ c ∷ d ∷ e ∷ more) = None
 
--- the form alone
-abbrev pub command_of : Request → Option Command
-command_of unknown = None
-command_of (synth file) = Some command.Synth
-command_of (simn netlist stimulus) = Some command.Simn
+-- how many bytes each file of a form may have, in the order of the words
+abbrev pub limits_of : Command → List ℕ
+limits_of command.Synth = source_limit ∷ []
+limits_of command.Simn = text_limit ∷ text_limit ∷ []
+limits_of (command.Lanes count) = text_limit ∷ text_limit ∷ []
+limits_of command.Upgrade = text_limit ∷ []
 
--- a request of the code, as contracts see it
-abbrev pub shown_request : Asked → Request
-shown_request asked.Unknown = unknown
-shown_request (asked.Synth file) = synth file.now
-shown_request (asked.Simn netlist stimulus) = simn netlist.now stimulus.now
+-- the names of the files
+abbrev pub names_for : Option Command → List (String Global) → List (List ℕ)
+names_for None words = []
+names_for (Some c) words = take (length (limits_of c)) (drop 1 (bytes_of words))
+
+abbrev pub names_in : List (String Global) → List (List ℕ)
+names_in words = names_for (command_of words) words
+
+-- the count of lanes is from 1 to 64
+abbrev pub IsForm : Command → Type 0
+IsForm command.Synth = ⊤
+IsForm command.Simn = ⊤
+IsForm (command.Lanes count) = (1 ≤ count) × (count ≤ 64)
+IsForm command.Upgrade = ⊤

@@ -1,8 +1,12 @@
-/// A form of the command line.
+/// A form of the command line. The names of its files are the words behind the first one, in their order.
 #[derive(Clone, Copy, Debug, PartialEq, Eq)]
 pub enum Command {
     /// `synth FILE`
     Synth,
     /// `simn NETLIST STIM`
     Simn,
+    /// `lanes NETLIST STIM COUNT`, where COUNT is one or two decimal digits, from 1 to 64.
+    Lanes { count: u32 },
+    /// `upgrade NETLIST`
+    Upgrade,
 }

@@ -5,15 +5,17 @@
 //! the errors.
 #![tactic(auto)]
 
+mod answering;
 mod forms;
+mod reading;
 mod reporting;
 mod running;
-mod simulating;
 mod simulation;
 mod status;
 mod synthesis;
 #[cfg(test)]
 mod tests;
+mod upgrading;
 mod words;
 
 pub use forms::Command;

@@ -1,6 +1,9 @@
 ghost use Rattle.std.specs.Prelude.{◌≡◌};
+ghost use Rattle.s_cli.specs.declared.status.Status.TheVariants as status;
+ghost use Rattle.s_cli.specs.Status.{status_by};
 
-use lz_base::Fault;
+use lz_base::{Fault, OutOfMemory, Stop};
+use std::alloc::AllocFailed;
 
 /// What a run ends with.
 #[derive(Clone, Copy, Debug, PartialEq, Eq)]
@@ -34,5 +37,32 @@ impl Status {
             Status::WriteFault => 4,
             Status::OutOfMemory => 5,
         }
+    }
+}
+
+impl From<Stop> for Status {
+    ghost from_gives = { λ stop s. s ≡ status_by stop };
+
+    fn from(stop: Stop) -> Status {
+        match stop {
+            Stop::Fault(fault) => Status::Refused(fault),
+            Stop::OutOfMemory => Status::OutOfMemory,
+        }
+    }
+}
+
+impl From<OutOfMemory> for Status {
+    ghost from_gives = { λ _ s. s ≡ status.OutOfMemory };
+
+    fn from(_e: OutOfMemory) -> Status {
+        Status::OutOfMemory
+    }
+}
+
+impl<T: Drop> From<AllocFailed<T>> for Status {
+    ghost from_gives = { λ _ s. s ≡ status.OutOfMemory };
+
+    fn from(_e: AllocFailed<T>) -> Status {
+        Status::OutOfMemory
     }
 }

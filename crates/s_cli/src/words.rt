@@ -1,38 +1,66 @@
-ghost use Rattle.std.specs.Prelude.{◌≡◌};
-ghost use Rattle.s_cli.specs.Words.{request_of, command_of, shown_request};
+ghost use Rattle.std.specs.Prelude.{◌≡◌, ◌<◌, ◌≤◌, ◌^◌, length, Some, slice_get, IfSome};
+ghost use Rattle.s_cli.specs.Words.{IsForm, command_of, lanes_by, limits_of};
 
 use crate::Command;
+use lz_base::{SOURCE_LIMIT, TEXT_LIMIT};
 
-/// A form of the command line, with the names of its files.
-#[derive(Clone, Copy, Debug)]
-pub(crate) enum Asked<'a> {
-    Unknown,
-    Synth(&'a str),
-    Simn(&'a str, &'a str),
-}
-
-// What the words ask for.
-pub(crate) fn asked_by(words: &[String]) -> Asked<'_>
-    ensures { shown_request result ≡ request_of words.now }
+// The form by the word COUNT.
+#[tactic(auto, unfolding(crate::specs::Words::lanes_by))]
+fn lanes_by(count: &[u8]) -> Option<Command>
+    ensures by { result ≡ lanes_by count.now }
+    ensures form { IfSome result IsForm }
 {
-    match words {
-        [verb, file] if verb.as_str() == "synth" => Asked::Synth(file.as_str()),
-        [verb, netlist, stimulus] if verb.as_str() == "simn" => {
-            Asked::Simn(netlist.as_str(), stimulus.as_str())
+    match count {
+        [d] if b'1' <= *d && *d <= b'9' => Some(Command::Lanes {
+            count: u32::from(*d - b'0'),
+        }),
+        [d, e] if b'0' <= *d && *d <= b'9' && b'0' <= *e && *e <= b'9' => {
+            let count = u32::from(*d - b'0') * 10 + u32::from(*e - b'0');
+            if 1 <= count && count <= 64 {
+                Some(Command::Lanes { count })
+            } else {
+                None
+            }
         }
-        _ => Asked::Unknown,
+        _ => None,
     }
 }
 
 /// The form of the words after the program's name. `None` comes exactly where they are of no form.
 ///
-/// The first word is compared byte by byte, and every other word is a file name, whatever it is.
+/// The first word is compared byte by byte, and every other word but COUNT is a file name, whatever it is. It takes no
+/// memory.
 pub fn command(words: &[String]) -> Option<Command>
-    ensures { result ≡ command_of (request_of words.now) }
+    ensures by { result ≡ command_of words.now }
+    ensures form { IfSome result IsForm }
 {
-    match asked_by(words) {
-        Asked::Unknown => None,
-        Asked::Synth(_) => Some(Command::Synth),
-        Asked::Simn(_, _) => Some(Command::Simn),
+    match words {
+        [verb, _] if verb.as_str() == "synth" => Some(Command::Synth),
+        [verb, _] if verb.as_str() == "upgrade" => Some(Command::Upgrade),
+        [verb, _, _] if verb.as_str() == "simn" => Some(Command::Simn),
+        [verb, _, _, count] if verb.as_str() == "lanes" => lanes_by(count.as_bytes()),
+        _ => None,
+    }
+}
+
+/// How many files a form names.
+pub(crate) fn file_count(command: Command) -> usize
+    ensures { result ≡ length (limits_of command) }
+{
+    match command {
+        Command::Synth | Command::Upgrade => 1,
+        Command::Simn | Command::Lanes { .. } => 2,
+    }
+}
+
+/// How many bytes the file at an index may have.
+pub(crate) fn limit(command: Command, index: usize) -> u64
+    requires { index < length (limits_of command) }
+    ensures limit { slice_get (limits_of command) index ≡ Some result }
+    ensures small { result ≤ 2 ^ 28 }
+{
+    match command {
+        Command::Synth => SOURCE_LIMIT,
+        Command::Simn | Command::Lanes { .. } | Command::Upgrade => TEXT_LIMIT,
     }
 }

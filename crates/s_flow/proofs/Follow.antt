@@ -5,20 +5,24 @@ use Rattle.std.proofs.lemmas.List.{get_or-append-add, take_at}
 use Rattle.std.proofs.Math.ListN.{get_or-append}
 use lib.Pointwise.{pointwise}
 use Rattle.lz_base.specs.Bits.{words_bits, word_bits, low_bits, word_of}
+use Rattle.lz_base.specs.Names.{IsAmong, AreAmong}
 use Rattle.lz_base.specs.Ports.{FitPorts}
 use Rattle.lz_base.specs.WordValue.{WordValue}
-use Rattle.n_cells.specs.Netlist.{port_bits, first_net, cell_nets}
-use Rattle.n_cells.specs.Run.{CellsHold, value_at, shown, next_state, first_state, table_bit}
+use Rattle.lz_machine.specs.Machine.{Lasts, Realises}
+use Rattle.lz_machine.proofs.Laws.{Steps, follows_by}
+use Rattle.n_cells.specs.AsMachine.{NetlistDoes, netlist_machine}
+use Rattle.n_cells.specs.Netlist.{NetlistValue, IsWellFormed, port_bits, first_net, cell_nets}
+use Rattle.n_cells.specs.Run.{IsValuation, CellsHold, value_at, shown, after_edge, next_state, first_state, table_bit}
 use Rattle.n_cells.specs.declared.netlist.Flop.{Flop}
 use Rattle.n_cells.specs.declared.netlist.Stored.TheVariants.{Lut}
 use Rattle.v_syntax.specs.declared.small.SmallOperand.{SmallOperand}
 use Rattle.v_syntax.specs.declared.small.SmallExpr.{SmallExpr}
 use Rattle.v_syntax.specs.declared.small.SmallExpr.TheVariants.{One, Two}
 use Rattle.v_syntax.specs.declared.small.SmallModule.{SmallModule}
-use Rattle.v_syntax.specs.Small.{HasNames, IsAmong, AreAmong, input_names, register_names, port_names, read_names}
+use Rattle.v_syntax.specs.Small.{HasNames, input_names, register_names, port_names, read_names}
 use Rattle.v_meaning.specs.Cycle.{bit_ports, inputs_of, read_of, operand_value, value_of, operate, shown_words, written}
+use Rattle.v_meaning.specs.SmallMachine.{EverySchedule, ModuleDoes, module_machine}
 use Rattle.s_flow.specs.Made.{place_of, net_among, free_net, inverted_if, cells_of, value_net, flops_of, nets_from, netlist_of, bit_number}
-use Rattle.s_flow.specs.Realises.{Follows, Realises}
 use Rattle.s_flow.proofs.Names.{bit_at_place, place_within, among_parted}
 use Rattle.s_flow.proofs.Tables.{table_of_two, table_of_one}
 use Rattle.s_flow.proofs.Schedules.{one_order}
@@ -63,18 +67,20 @@ own_bit : (values front store back : List Bool) (bit : Bool) → values ≡ fron
 own_bit values front store back bit is =
     ap (λ l. value_at l (length front)) (is ∙ append_assoc front (bit ∷ store) back) ∙ here front bit (store ++ back)
 
--- what the flip-flops take: the assigned register the value, and each other its own bit
+-- what the flip-flops take, whose enables are 1: the assigned register the value, and each other its own bit
 pub flops_next : (values front store back : List Bool) (names : List (List ℕ)) (target : List ℕ) (net : ℕ)
-    → values ≡ front ++ store ++ back → length names ≡ length store
-    → map (λ (f : Flop). value_at values f.net) (flops_of (length front) names target net) ≡ written names store target (value_at values net)
-flops_next values front store back [] target net is long = refl
-flops_next values front [] back (n ∷ names) target net is long = absurd (omega arith)
-flops_next values front (bit ∷ store) back (n ∷ names) target net is long =
+    → value_at values 1 ≡ true → values ≡ front ++ store ++ back → length names ≡ length store
+    → after_edge values (flops_of (length front) names target net) store ≡ written names store target (value_at values net)
+flops_next values front store back [] target net on is long = refl
+flops_next values front [] back (n ∷ names) target net on is long = absurd (omega arith)
+flops_next values front (bit ∷ store) back (n ∷ names) target net on is long =
     let own : value_at values (length front) ≡ bit = own_bit values front store back bit is in
     let one : value_at values (if pointwise ◌==◌ n target then net else length front) ≡ (if pointwise ◌==◌ n target then value_at values net else bit) =
     elim (pointwise ◌==◌ n target) as (λ same. value_at values (if same then net else length front) ≡ (if same then value_at values net else bit)) [ true ↦ refl | false ↦ own ] in
-    let rest = rw (longer front bit) at (flops_next values (front ++ bit ∷ []) store back names target net (moved_on values front store back bit is) (omega arith)) in
-    ap (λ v. v ∷ map (λ (f : Flop). value_at values f.net) (flops_of (length front + 1) names target net)) one
+    let rest = rw (longer front bit) at (flops_next values (front ++ bit ∷ []) store back names target net on (moved_on values front store back bit is) (omega arith)) in
+    let taken : (if value_at values 1 then value_at values (if pointwise ◌==◌ n target then net else length front) else bit) ≡ value_at values (if pointwise ◌==◌ n target then net else length front) =
+    rw on refl in
+    ap (λ v. v ∷ after_edge values (flops_of (length front + 1) names target net) store) (taken ∙ one)
     ∙ ap (λ vs. (if pointwise ◌==◌ n target then value_at values net else bit) ∷ vs) rest
 
 -- the outputs show the registers
@@ -171,51 +177,89 @@ cells_long s store inputs (One a) =
     elim (a.inverted) as (λ v. length (if v then (if v then not r else r) ∷ [] else []) ≡ cell_nets (if v then Lut (net_among (input_names s.ports) (register_names s.ports) a.name.name ∷ []) 1 ∷ [] else [])) [ true ↦ refl | false ↦ refl ]
 cells_long s store inputs (Two a operator b) = refl
 
-pub follows : (s : SmallModule) → HasNames s → (cycles : ℕ) (store : List Bool) → length store ≡ length (register_names s.ports) → Follows (netlist_of s) s cycles store store
-follows s names zero store long = tt
-follows s names (suc cycles) store long = λ inputs fit.
+-- the values of all nets
+abbrev values_of : SmallModule → List Bool → List WordValue → List Bool
+values_of s store inputs = before inputs store ++ cell_bits s store inputs s.value
+
+-- the store behind the edge
+abbrev next_of : SmallModule → List Bool → List WordValue → List Bool
+next_of s store inputs = written (register_names s.ports) store s.target.name (value_of (read_of s store inputs) s.value)
+
+-- What the values are, where the store has a bit for each register: a valuation, under which the outputs show the store
+-- and the flip-flops take the next one.
+record Fits (s : SmallModule) (store : List Bool) (inputs : List WordValue) : Type 0 where
+  valued : IsValuation (netlist_of s) inputs store (values_of s store inputs)
+  shows : shown (netlist_of s) (values_of s store inputs) ≡ shown_words store
+  moves : next_state (netlist_of s) store (values_of s store inputs) ≡ next_of s store inputs
+
+fits : (s : SmallModule) (store : List Bool) (inputs : List WordValue) → HasNames s → FitPorts (inputs_of s) inputs → length store ≡ length (register_names s.ports) → Fits s store inputs
+fits s store inputs names fit long =
     let ins : List (List ℕ) = input_names s.ports in
     let regs : List (List ℕ) = register_names s.ports in
+    let net : ℕ = value_net ins regs s.value in
     let long_in : length (words_bits inputs) ≡ length ins = inputs_long ins inputs fit in
     let bits : List Bool = cell_bits s store inputs s.value in
-    let values : List Bool = before inputs store ++ bits in
-    let v : Bool = value_of (read_of s store inputs) s.value in
-    let next : List Bool = written regs store s.target.name v in
+    let values : List Bool = values_of s store inputs in
     let front : List Bool = false ∷ true ∷ words_bits inputs in
     let front_long : length front ≡ 2 + length ins = omega (arith, long_in) in
-    let first : first_net (inputs_of s) (flops_of (2 + length ins) regs s.target.name (value_net (input_names s.ports) (register_names s.ports) s.value)) ≡ length (before inputs store) =
-    omega (arith, bits_of_ports ins, flops_long (2 + length ins) regs s.target.name (value_net (input_names s.ports) (register_names s.ports) s.value), before_long s store inputs long_in long) in
-    let state : next_state (netlist_of s) values ≡ next =
-    rw front_long at (flops_next values front store bits regs s.target.name (value_net (input_names s.ports) (register_names s.ports) s.value) refl (sym long))
-    ∙ ap (written regs store s.target.name) (value_there s store inputs s.value long_in long names.reads) in
-    let shows : shown (netlist_of s) values ≡ shown_words store = rw front_long at (nets_shown values front store bits regs refl (sym long)) in
-    let rest : Follows (netlist_of s) s cycles next next = follows s names cycles next (written_long regs store s.target.name v (sym long)) in (
-      [],
-      refl,
-      values,
-      record {
+    let on : value_at values 1 ≡ true = ap (λ l. value_at l 1) (append_assoc (false ∷ true ∷ []) (words_bits inputs ++ store) bits) in
+    let first : first_net (inputs_of s) (flops_of (2 + length ins) regs s.target.name net) ≡ length (before inputs store) =
+    omega (arith, bits_of_ports ins, flops_long (2 + length ins) regs s.target.name net, before_long s store inputs long_in long) in
+    record {
+      valued = record {
         count = omega (arith, length-append (before inputs store) bits, first, cells_long s store inputs s.value);
         front = take_at (before inputs store) bits _ (sym first);
         cells = cells_hold s store inputs s.value _ long_in long names.reads first;
-      },
-      shows,
-      next,
-      refl,
-      one_order s store inputs [],
-      rw state rest,
-    )
+      };
+      shows = rw front_long at (nets_shown values front store bits regs refl (sym long));
+      moves = rw front_long at (flops_next values front store bits regs s.target.name net on refl (sym long))
+          ∙ ap (written regs store s.target.name) (value_there s store inputs s.value long_in long names.reads);
+    }
+
+-- a netlist has at most one valuation
+abbrev pub OneValuation : Type 0
+OneValuation = (n : NetlistValue) (inputs : List WordValue) (state a b : List Bool) → IsWellFormed n → IsValuation n inputs state a → IsValuation n inputs state b → a ≡ b
+
+-- the netlist's state is the module's store, with a bit for each register
+abbrev Stores : SmallModule → List Bool → List Bool → Type 0
+Stores s store state = (store ≡ state) × (length state ≡ length (register_names s.ports))
+
+-- whatever the netlist does from there, the module may do
+steps : (s : SmallModule) → HasNames s → OneValuation → IsWellFormed (netlist_of s) → Steps (module_machine EverySchedule s) (netlist_machine (netlist_of s)) (Stores s)
+steps s names unique formed store state same inputs fit words after does =
+    let d : NetlistDoes (netlist_of s) state inputs words after = does in
+    let f : Fits s state inputs = fits s state inputs names fit same.1 in
+    let values_same : d.values ≡ values_of s state inputs = unique (netlist_of s) inputs state d.values (values_of s state inputs) formed d.valued f.valued in
+    let shows : words ≡ shown_words state = d.shows ∙ ap (shown (netlist_of s)) values_same ∙ f.shows in
+    let moves : after ≡ next_of s state inputs = d.goes_on ∙ ap (next_state (netlist_of s) state) values_same ∙ f.moves in
+    let long : length after ≡ length (register_names s.ports) = ap length moves ∙ written_long (register_names s.ports) state s.target.name (value_of (read_of s state inputs) s.value) (sym same.1) in
+    let may : ModuleDoes EverySchedule s state inputs words (next_of s state inputs) = record {
+      choice = [];
+      bits = refl;
+      shown = shows;
+      by_text = refl;
+      scheduled = λ schedule _ complete. one_order s state inputs [] schedule complete;
+    } in
+    (next_of s state inputs, rw same.0 may, (sym moves, long))
 
 first_long : (s : SmallModule) → length (first_state (netlist_of s)) ≡ length (register_names s.ports)
 first_long s = length-map (flops_of (2 + length (input_names s.ports)) (register_names s.ports) s.target.name (value_net (input_names s.ports) (register_names s.ports) s.value)) (λ (f : Flop). f.first)
     ∙ flops_long (2 + length (input_names s.ports)) (register_names s.ports) s.target.name (value_net (input_names s.ports) (register_names s.ports) s.value)
 
-pub realised : (s : SmallModule) → HasNames s → Realises (netlist_of s) s
-realised s names = record {
-  named = refl;
-  inputs = refl;
-  outputs = refl;
-  clock = refl;
-  first = first_state (netlist_of s);
-  first_length = first_long s;
-  follows = λ cycles. follows s names cycles (first_state (netlist_of s)) (first_long s);
-}
+pub realised : (s : SmallModule) → HasNames s → OneValuation → IsWellFormed (netlist_of s) → ((cycles : ℕ) → Lasts (netlist_machine (netlist_of s)) cycles (first_state (netlist_of s)))
+    → Realises (module_machine EverySchedule s) (netlist_machine (netlist_of s))
+realised s names unique formed lasts =
+    let first : List Bool = first_state (netlist_of s) in
+    record {
+      name = refl;
+      clock = refl;
+      inputs = refl;
+      outputs = refl;
+      begins = (first, refl);
+      lasts = λ state is cycles. rw is (lasts cycles);
+      follows = λ state is. rw is (
+        first,
+        record { first = first; bits = first_long s; store_is = refl },
+        λ cycles. follows_by (module_machine EverySchedule s) (netlist_machine (netlist_of s)) (Stores s) (steps s names unique formed) cycles first first (refl, first_long s),
+      );
+    }

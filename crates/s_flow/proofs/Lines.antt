@@ -1,7 +1,7 @@
 -- What the lines of the netlist of a small module may refer to.
 use Rattle.std.proofs.Common.{subst, ◌≡◌, ◌<◌, ◌≤◌, ◌+◌, ℕ, List, [], ◌∷◌, ◌++◌, length, map, true, false, ◌==◌, if◌then◌else◌, sym, ap, ◌∙◌, arith, length-append, append-nil}
 use lib.Pointwise.{pointwise}
-use Rattle.lz_base.specs.Names.{AreDistinct}
+use Rattle.lz_base.specs.Names.{AreDistinct, IsAmong, AreAmong}
 use Rattle.lz_base.specs.declared.name.Port.{Port}
 use Rattle.v_syntax.specs.declared.small.SmallPort.{SmallPort}
 use Rattle.n_cells.specs.Netlist.{AllBelow, FlopsBelow, cell_nets}
@@ -9,7 +9,7 @@ use Rattle.n_cells.specs.declared.netlist.Stored.TheVariants.{Lut}
 use Rattle.v_syntax.specs.declared.small.SmallExpr.{SmallExpr}
 use Rattle.v_syntax.specs.declared.small.SmallExpr.TheVariants.{One, Two}
 use Rattle.v_syntax.specs.declared.small.SmallModule.{SmallModule}
-use Rattle.v_syntax.specs.Small.{HasNames, IsAmong, AreAmong, input_names, register_names, port_names, read_names}
+use Rattle.v_syntax.specs.Small.{HasNames, input_names, register_names, port_names, read_names}
 use Rattle.v_meaning.specs.Cycle.{bit_ports}
 use Rattle.s_flow.specs.Made.{net_among, free_net, value_net, cells_of, flops_of}
 use Rattle.s_flow.proofs.Names.{place_within, names_of_ports, among_parted, distinct_parted, distinct_front}
@@ -61,9 +61,10 @@ value_there_below s ins regs net count names are_ins are_regs is long =
     omega arith
 
 -- the nets of the flip-flops are there
-pub flops_below : (count own : ℕ) (names : List (List ℕ)) (target : List ℕ) (net : ℕ) → own + length names ≤ count → net < count → FlopsBelow count (flops_of own names target net)
-flops_below count own [] target net long there = tt
-flops_below count own (n ∷ names) target net long there = (
+pub flops_below : (count own : ℕ) (names : List (List ℕ)) (target : List ℕ) (net : ℕ) → 1 < count → own + length names ≤ count → net < count → FlopsBelow count (flops_of own names target net)
+flops_below count own [] target net two long there = tt
+flops_below count own (n ∷ names) target net two long there = (
   elim (pointwise ◌==◌ n target) as (λ same. (if same then net else own) < count) [ true ↦ there | false ↦ omega arith ],
-  flops_below count (own + 1) names target net (omega arith) there,
+  two,
+  flops_below count (own + 1) names target net two (omega arith) there,
 )

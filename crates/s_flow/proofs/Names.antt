@@ -3,11 +3,11 @@ use Rattle.std.proofs.Common.{◌≡◌, ◌<◌, ◌+◌, ℕ, suc, List, [], �
 use Rattle.std.proofs.lemmas.List.{length-map}
 use lib.Pointwise.{pointwise, bytes_decides}
 use denote.Ref.{Bor}
-use Rattle.lz_base.specs.Names.{IsNew, AreDistinct}
+use Rattle.lz_base.specs.Names.{IsNew, AreDistinct, IsAmong}
 use Rattle.lz_base.specs.declared.name.Port.{Port}
 use Rattle.v_syntax.specs.declared.small.SmallPort.{SmallPort}
 use Rattle.v_syntax.specs.declared.small.SmallPort.TheVariants.{Input, Register}
-use Rattle.v_syntax.specs.Small.{IsAmong, input_names, register_names, port_names}
+use Rattle.v_syntax.specs.Small.{input_names, register_names, port_names}
 use Rattle.v_meaning.specs.Cycle.{bit_named, bit_ports}
 use Rattle.n_cells.specs.Run.{value_at}
 use Rattle.s_flow.specs.Made.{place_of, net_among, names_in}

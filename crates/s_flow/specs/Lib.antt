@@ -1,4 +1,5 @@
 pub mod SmallText
-pub mod Realises
 pub mod Made
 pub mod Front
+pub mod Simulation
+pub mod SideBySide

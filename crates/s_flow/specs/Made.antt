@@ -53,10 +53,10 @@ abbrev pub value_net : List (List ℕ) → List (List ℕ) → SmallExpr → ℕ
 value_net inputs registers (One a) = if a.inverted then free_net inputs registers else net_among inputs registers a.name.name
 value_net inputs registers (Two a operator b) = free_net inputs registers
 
--- the flip-flops: the assigned register takes the value, and each other keeps its bit
+-- the flip-flops, whose enables are the constant 1: the assigned register takes the value, and each other its own bit
 abbrev pub flops_of : ℕ → List (List ℕ) → List ℕ → ℕ → List Flop
 flops_of own [] target net = []
-flops_of own (name ∷ names) target net = record { first = false; net = if pointwise ◌==◌ name target then net else own } ∷ flops_of (own + 1) names target net
+flops_of own (name ∷ names) target net = record { first = false; net = if pointwise ◌==◌ name target then net else own; enable = 1 } ∷ flops_of (own + 1) names target net
 
 -- one net for each output, from this one on
 abbrev pub nets_from : ℕ → List (List ℕ) → List (List ℕ)

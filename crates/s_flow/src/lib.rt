@@ -1,15 +1,18 @@
-//! From the bytes of a source to a netlist.
+//! From the bytes of a source to a netlist, and from a netlist and a stimulus to a trace.
 //!
-//! It stands on the lexer, on the reader of small modules, and on the maker of netlists. `front` reads a small module
-//! exactly where the bytes are a text of one; `make` gives a netlist that realises it, by the definitions of `specs/`,
-//! which speak of the source's syntax on one side and of the netlist's run on the other.
+//! It stands on the lexer, on the reader of small modules, on the maker of netlists and on their simulators. `front`
+//! reads a small module exactly where the bytes are a text of one; `make` gives a netlist that realises it: its machine
+//! shows only what the module's machine may show under every schedule. `simulate` and `simulate_lanes` give the trace
+//! of a netlist's run over a stimulus, the second one for up to 64 streams in turn.
 #![tactic(auto)]
 
 mod making;
 mod reading;
+mod simulating;
+mod transposing;
+mod turns;
 
 pub use making::make;
 pub use reading::front;
-
-#[cfg(test)]
-mod tests;
+pub use simulating::{simulate, widths};
+pub use turns::simulate_lanes;

@@ -1,13 +1,15 @@
 ghost use Rattle.std.specs.Prelude.{◌≡◌, ◌<◌, ◌≤◌, ◌+◌, ◌++◌, ◌==◌, ◌^◌, [], ◌∷◌, ℕ, List, map, length, IfOk, OnOk, IsSome, if◌then◌else◌};
 ghost use Rattle.lz_base.specs.Names.{AreDistinct};
-ghost use Rattle.n_cells.specs.Netlist.{names_of, net_count, AllBelow};
+ghost use Rattle.lz_machine.specs.Machine.{Realises};
+ghost use Rattle.n_cells.specs.AsMachine.{netlist_machine};
+ghost use Rattle.n_cells.specs.Netlist.{names_of, net_count, AllBelow, IsWellFormed};
 ghost use Rattle.v_syntax.specs.Small.{HasNames, input_names, register_names, read_names};
 ghost use Rattle.v_meaning.specs.Cycle.{operate, bit_ports, clock_of};
+ghost use Rattle.v_meaning.specs.SmallMachine.{EverySchedule, module_machine};
 ghost use Rattle.s_flow.specs.Made.{place_of, net_among, free_net, value_net, cells_of, table_of, flops_of, nets_from, netlist_of, names_in, bit_number, inverted_if};
-ghost use Rattle.s_flow.specs.Realises.{Realises};
 
 use lz_base::{Name, Num, OutOfMemory, Port};
-use n_cells::{Netlist, NetlistMaker};
+use n_cells::{Netlist, NetlistMaker, machine_lasts, one_valuation};
 use std::alloc::Global;
 use v_syntax::{SmallExpr, SmallModule, SmallOperand, SmallOperator, SmallPort};
 
@@ -152,7 +154,8 @@ fn push_inputs(maker: &mut NetlistMaker, names: &[&Name]) -> Result<(), OutOfMem
     Ok(())
 }
 
-// Appends a flip-flop for each register: the target takes the net of the value, and each other its own.
+// Appends a flip-flop for each register, with the constant 1 as its enable: the target takes the net of the value, and
+// each other its own.
 fn push_flips(
     maker: &mut NetlistMaker,
     names: &[&Name],
@@ -173,7 +176,7 @@ fn push_flips(
         } else {
             own
         };
-        maker.flip(false, taken)?;
+        maker.flip(false, taken, 1)?;
     }
     Ok(())
 }
@@ -218,7 +221,8 @@ fn push_outputs(maker: &mut NetlistMaker, names: &[&Name], first: Num) -> Result
 // The netlist, by its definition.
 fn build(alloc: Global, small: &SmallModule) -> Result<Netlist, OutOfMemory>
     requires { HasNames small.now }
-    ensures { IfOk result (λ n. n ≡ netlist_of small.now) }
+    ensures is { IfOk result (λ n. n ≡ netlist_of small.now) }
+    ensures formed { IfOk result IsWellFormed }
 {
     let nets = Nets {
         inputs: inputs_of(alloc, small.ports.as_slice())?,
@@ -241,10 +245,16 @@ fn build(alloc: Global, small: &SmallModule) -> Result<Netlist, OutOfMemory>
     Ok(maker.finish())
 }
 
-/// A netlist that realises the module. `OutOfMemory` is the only other answer.
+/// A netlist that realises the module: it has the module's name, clock and ports, and whatever it shows over any
+/// words at its inputs, the module may show under some choice of the bits that it leaves open and under every schedule.
+/// `OutOfMemory` is the only other answer.
 pub fn make(alloc: Global, small: &SmallModule) -> Result<Netlist, OutOfMemory>
     requires { HasNames small.now }
-    ensures { IfOk result (λ n. Realises n small.now) }
+    ensures formed { IfOk result IsWellFormed }
+    ensures realises { IfOk result (λ n. Realises (module_machine EverySchedule small.now) (netlist_machine n)) }
 {
-    Ok(build(alloc, small)?)
+    let netlist = build(alloc, small)?;
+    one_valuation();
+    machine_lasts();
+    Ok(netlist)
 }

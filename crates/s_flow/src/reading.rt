@@ -1,4 +1,5 @@
-ghost use Rattle.std.specs.Prelude.{◌≡◌, ◌≤◌, ◌^◌, length};
+ghost use Rattle.std.specs.Prelude.{◌≡◌, ◌≤◌, length};
+ghost use Rattle.lz_base.specs.Limits.{source_limit};
 ghost use Rattle.s_flow.specs.Front.{IsRead, IsReadFrom};
 
 use lz_base::{Fault, OutOfMemory, Rule, Stop};
@@ -14,7 +15,7 @@ use v_syntax::{SmallModule, Tokens};
 /// comes where the tokens are no module, at a token with which no module goes on, and `U1` at 0 where they are a
 /// module and no small one.
 pub fn front(alloc: Global, bytes: &[u8]) -> Result<SmallModule, Stop>
-    requires { length bytes.now ≤ 2 ^ 20 }
+    requires { length bytes.now ≤ source_limit }
     ensures { IsRead bytes.now result }
 {
     match lex(alloc, bytes) {

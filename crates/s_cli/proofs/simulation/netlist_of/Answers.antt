@@ -1,17 +1,11 @@
-use Rattle.std.proofs.Common.{◌≤◌, ℕ, Option, Vec, Err, arith, ap, sym, subst, length}
-use Rattle.std.specs.declared.alloc.Global.{Global}
-use Rattle.s_cli.specs.Simulation.{Reads, text_limit}
-use Rattle.s_cli.proofs.Simulated.{reads_ok, reads_err}
+use Rattle.std.proofs.Common.{◌≤◌, arith, ap, length}
+use Rattle.lz_base.specs.Limits.{text_limit}
+use Rattle.n_cells.specs.declared.format.Format.TheVariants.{Two}
+use Rattle.s_cli.proofs.Simulated.{reads_whole}
 use Rattle.s_cli.proofs.simulation.netlist_of.Goals as goal
 
-pub returns-in-Ok : goal.returns-in-Ok
-returns-in-Ok c =
+pub returns-in-Some : goal.returns-in-Some
+returns-in-Some c =
     let short = rw c.in-Some.is at c.requires in
     let within : length c.in-Some.bytes.items ≤ text_limit = omega (arith, short, c.as_slice.ensures.len, ap length c.as_slice.ensures.value) in
-    rw c.in-Some.is (reads_ok c.in-Some.bytes c.in-Ok.netlist within c.cell_count-cells.ensures.formed (rw c.as_slice.ensures.value at c.in-Ok.ensures.text))
-
-pub returns-in-Err : goal.returns-in-Err
-returns-in-Err c =
-    let short = rw c.in-Some.is at c.requires in
-    let within : length c.in-Some.bytes.items ≤ text_limit = omega (arith, short, c.as_slice.ensures.len, ap length c.as_slice.ensures.value) in
-    subst (λ (w : Option (Vec ℕ Global)). Reads w (Err c.in-Err.stop)) (sym c.in-Some.is) (reads_err c.in-Some.bytes c.in-Err.stop within (rw c.as_slice.ensures.value at c.in-Err.ensures.fault) (rw c.as_slice.ensures.value at c.in-Err.ensures.only))
+    rw c.in-Some.is (reads_whole Two c.in-Some.bytes c.read.result within (rw c.as_slice.ensures.value at c.read.ensures.text) c.read.ensures.formed (rw c.as_slice.ensures.value at c.read.ensures.only) (rw c.as_slice.ensures.value at c.read.ensures.fault))

@@ -27,6 +27,6 @@ push_outputs-requires-clause-there c =
 pub finish-requires : goal.finish-requires
 finish-requires c =
     rw (c.in_ok-push_outputs.ensures, c.in_ok-push_cell.ensures, c.in_ok-push_flips.ensures, c.in_ok-push_inputs.ensures, c.new-maker.ensures)
-    (flops_below _ _ _ _ _ (omega (arith, bits_of_ports, flops_long, length_names_in, c.len.ensures, c.as_slice-3.ensures.value, c.as_slice-4.ensures.len))
+    (flops_below _ _ _ _ _ (omega arith) (omega (arith, bits_of_ports, flops_long, length_names_in, c.len.ensures, c.as_slice-3.ensures.value, c.as_slice-4.ensures.len))
     (value_there_below c.args.small.now _ _ _ _ c.requires (c.in_ok-inputs_of.ensures ∙ ap input_names c.as_slice.ensures) (c.in_ok-registers_of.ensures ∙ ap register_names c.as_slice-2.ensures) c.value_net-net.ensures
     (omega (arith, bits_of_ports, flops_long, length_names_in, c.len.ensures, c.as_slice-3.ensures.value, c.as_slice-4.ensures.value))))

@@ -1,0 +1,81 @@
+-- Files that were read, and one more.
+use Rattle.std.proofs.Common.{◌≡◌, ◌<◌, ◌≤◌, ◌+◌, ◌^◌, ℕ, List, [], ◌∷◌, ◌++◌, length, map, take, get_or, Option, None, Some, Vec, refl, sym, ap, subst, arith, ◌∙◌, inl, inr}
+use Rattle.std.specs.Prelude.{◌⊎◌, String, string_bytes, slice_get, vec_len}
+use Rattle.std.specs.declared.alloc.Global.{Global}
+use Rattle.std.proofs.lemmas.List.{take_more, map_push, length-append, length-take-le}
+use Rattle.std.proofs.lemmas.Option.{slice_get_within, get_or_from_slice_get}
+use Rattle.lz_base.specs.Outside.{Told}
+use Rattle.s_cli.specs.Texts.{AreShort, AreUnder, AreWhole, AnyMissing, IsMissing, IsShort, IsWhole, StandsSo, WereRead}
+use Rattle.s_cli.specs.Words.{bytes_of}
+
+abbrev Texts : Type 0
+Texts = List (Option (Vec ℕ Global))
+
+-- bytes under names and one more name
+under_split : (content : List ℕ → Option (List ℕ)) (names : List (List ℕ)) (name : List ℕ) (contents : List (List ℕ)) → AreUnder (Some content) (names ++ name ∷ []) contents
+    → (front : List (List ℕ)) × (last : List ℕ) × (contents ≡ front ++ last ∷ []) × AreUnder (Some content) names front × (content name ≡ Some last)
+under_split content [] name [] h = absurd h
+under_split content [] name (b ∷ []) h = ([], b, refl, tt, h.0)
+under_split content [] name (b ∷ c ∷ more) h = absurd h.1
+under_split content (n ∷ names) name [] h = absurd h
+under_split content (n ∷ names) name (b ∷ contents) h =
+    let r = under_split content names name contents h.1 in
+    (b ∷ r.0, r.1, ap (λ l. b ∷ l) r.2, (h.0, r.3), r.4)
+
+whole_more : (limits : List ℕ) (texts : Texts) (contents : List (List ℕ)) (limit : ℕ) (text : Option (Vec ℕ Global)) (bytes : List ℕ) → AreWhole limits texts contents → IsWhole limit text bytes
+    → AreWhole (limits ++ limit ∷ []) (texts ++ text ∷ []) (contents ++ bytes ∷ [])
+whole_more [] [] [] limit text bytes h one = (one, tt)
+whole_more [] [] (b ∷ contents) limit text bytes h one = absurd h
+whole_more [] (t ∷ texts) contents limit text bytes h one = absurd h
+whole_more (l ∷ limits) [] contents limit text bytes h one = absurd h
+whole_more (l ∷ limits) (t ∷ texts) [] limit text bytes h one = absurd h
+whole_more (l ∷ limits) (t ∷ texts) (b ∷ contents) limit text bytes h one = (h.0, whole_more limits texts contents limit text bytes h.1 one)
+
+-- one file more was read
+read_more : (told : Told) (names : List (List ℕ)) (limits : List ℕ) (texts : Texts) (name : List ℕ) (limit : ℕ) (text : Option (Vec ℕ Global)) → WereRead told names limits texts
+    → StandsSo told name (IsWhole limit text) → WereRead told (names ++ name ∷ []) (limits ++ limit ∷ []) (texts ++ text ∷ [])
+read_more None names limits texts name limit text read stands = λ contents under. absurd under
+read_more (Some content) names limits texts name limit text read stands = λ contents under.
+    let r = under_split content names name contents under in
+    let same : stands.0 ≡ r.1 = let a = stands.1 in let b = r.4 in cc in
+    rw r.2 (whole_more limits texts r.0 limit text r.1 (read r.0 r.3) (subst (IsWhole limit text) same stands.2))
+
+missing_more : (content : List ℕ → Option (List ℕ)) (names : List (List ℕ)) (name bytes : List ℕ) → content name ≡ Some bytes → (AnyMissing content names → ⊥) → AnyMissing content (names ++ name ∷ []) → ⊥
+missing_more content [] name bytes is none (inl e) = absurd (cc (e, is))
+missing_more content [] name bytes is none (inr h) = absurd h
+missing_more content (n ∷ names) name bytes is none (inl e) = none (inl e)
+missing_more content (n ∷ names) name bytes is none (inr h) = missing_more content names name bytes is (λ m. none (inr m)) h
+
+-- and is there too
+there_more : (told : Told) (names : List (List ℕ)) (name : List ℕ) (P : List ℕ → Type 0) → StandsSo told name P → (IsMissing told names → ⊥) → IsMissing told (names ++ name ∷ []) → ⊥
+there_more None names name P stands none h = h
+there_more (Some content) names name P stands none h = missing_more content names name stands.0 stands.1 none h
+
+short_more : (limits : List ℕ) (texts : Texts) (limit : ℕ) (text : Option (Vec ℕ Global)) → length texts ≡ length limits → AreShort limits texts → IsShort limit text → AreShort (limits ++ limit ∷ []) (texts ++ text ∷ [])
+short_more [] [] limit text same h one = (one, tt)
+short_more [] (t ∷ texts) limit text same h one = absurd (omega (arith, same))
+short_more (l ∷ limits) [] limit text same h one = absurd (omega (arith, same))
+short_more (l ∷ limits) (t ∷ texts) limit text same h one = (h.0, short_more limits texts limit text (omega (arith, same)) h.1 one)
+
+-- The files before an index were read.
+pub record ReadTo (told : Told) (names : List (String Global)) (limits : List ℕ) (i : ℕ) (texts : Texts) : Type 0 where
+  pub read : WereRead told (bytes_of (take i names)) (take i limits) texts
+  pub there : IsMissing told (bytes_of (take i names)) → ⊥
+  pub count : length texts ≡ i
+  pub short : AreShort (take i limits) texts
+
+-- and the one there too
+pub read_next : (told : Told) (names : List (String Global)) (limits : List ℕ) (i : ℕ) (texts more : Texts) (name : String Global) (limit : ℕ) (text : Option (Vec ℕ Global))
+    → ReadTo told names limits i texts → i < length names → name ≡ get_or names i name → slice_get limits i ≡ Some limit → StandsSo told (string_bytes name) (IsWhole limit text) → IsShort limit text
+    → more ≡ texts ++ text ∷ [] → ReadTo told names limits (i + 1) more
+read_next told names limits i texts more name limit text before within at_name at_limit stands short_one grown =
+    let within_limits : i < length limits = slice_get_within limits i limit at_limit in
+    let limits_on : take (i + 1) limits ≡ take i limits ++ limit ∷ [] = take_more limits i limit within_limits ∙ ap (λ l. take i limits ++ l ∷ []) (get_or_from_slice_get limits i limit limit at_limit) in
+    let names_on : bytes_of (take (i + 1) names) ≡ bytes_of (take i names) ++ string_bytes name ∷ [] =
+    ap bytes_of (take_more names i name within ∙ ap (λ (n : String Global). take i names ++ n ∷ []) (sym at_name)) ∙ map_push (λ (word : String Global). string_bytes word) (take i names) name in
+    record {
+      read = rw (grown, limits_on, names_on) (read_more told (bytes_of (take i names)) (take i limits) texts (string_bytes name) limit text before.read stands);
+      there = rw names_on (there_more told (bytes_of (take i names)) (string_bytes name) (IsWhole limit text) stands before.there);
+      count = rw grown (length-append texts (text ∷ []) ∙ ap (λ k. k + 1) before.count);
+      short = rw (grown, limits_on) (short_more (take i limits) texts limit text (before.count ∙ sym (length-take-le i limits (omega (arith, within_limits)))) before.short short_one);
+    }

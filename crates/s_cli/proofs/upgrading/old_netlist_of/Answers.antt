@@ -1,0 +1,11 @@
+use Rattle.std.proofs.Common.{◌≤◌, arith, ap, length}
+use Rattle.lz_base.specs.Limits.{text_limit}
+use Rattle.n_cells.specs.declared.format.Format.TheVariants.{One}
+use Rattle.s_cli.proofs.Simulated.{reads_whole}
+use Rattle.s_cli.proofs.upgrading.old_netlist_of.Goals as goal
+
+pub returns-in-Some : goal.returns-in-Some
+returns-in-Some c =
+    let short = rw c.in-Some.is at c.requires in
+    let within : length c.in-Some.bytes.items ≤ text_limit = omega (arith, short, c.as_slice.ensures.len, ap length c.as_slice.ensures.value) in
+    rw c.in-Some.is (reads_whole One c.in-Some.bytes c.read_old.result within (rw c.as_slice.ensures.value at c.read_old.ensures.text) c.read_old.ensures.formed (rw c.as_slice.ensures.value at c.read_old.ensures.only) (rw c.as_slice.ensures.value at c.read_old.ensures.fault))

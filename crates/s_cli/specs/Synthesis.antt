@@ -1,0 +1,57 @@
+-- What the synthesis of a source answers.
+use Rattle.std.specs.Prelude.{◌≡◌, ◌⊎◌, ℕ, ◌<◌, ◌≤◌, List, length}
+use Rattle.lz_base.specs.Limits.{source_limit}
+use Rattle.lz_base.specs.declared.fault.Fault.{Fault}
+use Rattle.lz_base.specs.declared.rule.Rule.TheVariants.{E1, E2, U1}
+use Rattle.lz_machine.specs.Machine.{Realises}
+use Rattle.n_cells.specs.Netlist.{NetlistValue, IsWellFormed}
+use Rattle.n_cells.specs.AsMachine.{netlist_machine}
+use Rattle.n_cells.specs.Form.{HasForm}
+use Rattle.n_cells.specs.Text.{text}
+use Rattle.n_cells.specs.declared.format.Format.TheVariants.{Two}
+use Rattle.v_syntax.specs.declared.small.SmallModule.{SmallModule}
+use Rattle.v_syntax.specs.declared.module.Module.{Module}
+use Rattle.v_syntax.specs.declared.token.Token.{Token}
+use Rattle.v_syntax.specs.ModuleGrammar.{Derives}
+use Rattle.v_syntax.specs.Tokens.{Lexes, BreaksAt}
+use Rattle.v_syntax.specs.Small.{IsSmall}
+use Rattle.v_parser.specs.Refusal as parser
+use Rattle.v_meaning.specs.SmallMachine.{module_machine, EverySchedule}
+use Rattle.s_flow.specs.SmallText.{IsSmallText}
+use Rattle.s_flow.specs.Front.{IsBroken}
+use Rattle.s_cli.specs.declared.status.Status.{Status}
+use Rattle.s_cli.specs.declared.status.Status.TheVariants as status
+use Rattle.s_cli.specs.Status.{IsUnlessMemory, IsRefusedUnlessMemory}
+
+-- The output for a source: the text of a netlist that is well formed and realises the module of the source under every
+-- schedule of its processes. It has the form that the reader of netlists asks for, so that the text is read back as this
+-- netlist.
+pub record IsTranslation (source output : List ℕ) : Type 0 where
+  pub module_ : SmallModule
+  pub netlist : NetlistValue
+  pub within : length source ≤ source_limit
+  pub spelled : IsSmallText source module_
+  pub form : HasForm Two netlist
+  pub formed : IsWellFormed netlist
+  pub realised : Realises (module_machine EverySchedule module_) (netlist_machine netlist)
+  pub printed : output ≡ text Two netlist
+
+-- the source is too long
+pub record IsTooLong (source : List ℕ) (fault : Fault) : Type 0 where
+  pub longer : source_limit < length source
+  pub fault_is : fault ≡ record { rule = E1; at = source_limit }
+
+-- the source is refused with this fault: it is too long, or it breaks a later rule first
+abbrev pub IsSourceFault : List ℕ → Fault → Type 0
+IsSourceFault source fault = IsTooLong source fault ⊎ ((length source ≤ source_limit) × IsBroken source fault)
+
+-- What the status is where no call on the files and on the output failed, each unless memory was wanting: the first
+-- rule that is broken, and Ok for a source in the subset.
+pub record IsJudged (source : List ℕ) (result : Status) : Type 0 where
+  pub too_long : source_limit < length source → IsUnlessMemory result (status.Refused (record { rule = E1; at = source_limit }))
+  pub unlexed : (at : ℕ) → length source ≤ source_limit → BreaksAt source at → IsUnlessMemory result (status.Refused (record { rule = E2; at = at }))
+  pub unparsed : (tokens : List Token) → length source ≤ source_limit → Lexes source tokens → ((m : Module) → Derives tokens m → ⊥)
+      → IsRefusedUnlessMemory result (parser.IsRefused tokens (length source))
+  pub unsupported : (tokens : List Token) (m : Module) → length source ≤ source_limit → Lexes source tokens → Derives tokens m → ((s : SmallModule) → IsSmall tokens s → ⊥)
+      → IsUnlessMemory result (status.Refused (record { rule = U1; at = 0 }))
+  pub small : (s : SmallModule) → length source ≤ source_limit → IsSmallText source s → IsUnlessMemory result status.Ok

@@ -19,6 +19,3 @@ mod targets;
 mod tokens;
 
 pub use parsing::{one_module, parse};
-
-#[cfg(test)]
-mod tests;

@@ -50,7 +50,7 @@ pub struct PortGroup {
 /// When a process runs its body.
 #[derive(Debug, Drop)]
 pub enum Event {
-    /// `posedge name`: at each rising edge of the named net (IEEE Std 1364-2005, 9.7.1).
+    /// `posedge name`: at each rising edge of the named net (IEEE Std 1364-2005, 9.7.2).
     Posedge(Ident),
     /// `*`: whenever a net or variable changes that the body reads (9.7.5).
     Any,

@@ -11,7 +11,9 @@ use Rattle.v_syntax.specs.declared.expr.BinaryOperator.TheVariants as b
 use Rattle.v_meaning.specs.Views.{View}
 use Rattle.v_meaning.specs.Literals.{literal_of}
 use Rattle.v_meaning.specs.Senses.{Sense, Logical, constant, own, assigned, operated, replicated, joined}
-use Rattle.v_meaning.specs.Names.{Input, Entry, entry_of, read, selected, within_entry, or_zero}
+use Rattle.v_meaning.specs.declared.names.Kind.TheVariants.{Input}
+use Rattle.v_meaning.specs.declared.names.Entry.{Entry}
+use Rattle.v_meaning.specs.Names.{entry_of, read, selected, within_entry, or_zero}
 use Rattle.v_meaning.specs.Expressions.{sense_step, sense_of, number_sense, open_at, constant_step, is_constant}
 use Rattle.v_meaning.specs.Sites.{Site, is_fixed, site_step, sites_of}
 use Rattle.v_meaning.specs.Weights.{Weighed, weighed_by, weight_step, weight_at}

@@ -4,8 +4,10 @@ use Rattle.v_syntax.specs.declared.expr.Spelling.TheVariants as s
 use Rattle.v_meaning.specs.Views.{View, no_view, applied}
 use Rattle.v_meaning.specs.Literals.{literal_of, literal_value}
 use Rattle.v_meaning.specs.Senses.{Sense, leaf, own, assigned, extended}
-use Rattle.v_meaning.specs.Names.{Kind, Entry, read, read_part, selected}
-use Rattle.v_meaning.specs.Names as k
+use Rattle.v_meaning.specs.declared.names.Kind.{Kind}
+use Rattle.v_meaning.specs.declared.names.Entry.{Entry}
+use Rattle.v_meaning.specs.Names.{read, read_part, selected}
+use Rattle.v_meaning.specs.declared.names.Kind.TheVariants as k
 use Rattle.v_meaning.specs.Targets.{whole_target, selected_target, part_target, parts_writes}
 use Rattle.v_meaning.specs.Statements.{agree}
 use Rattle.v_meaning.specs.Designs.{Given, Open, Words}

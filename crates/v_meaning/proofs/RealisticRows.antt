@@ -20,7 +20,10 @@ use Rattle.v_syntax.specs.declared.stmt.Stmt.TheVariants as s
 use Rattle.v_syntax.specs.declared.stmt.Stmt.TheOpen as o
 use Rattle.v_syntax.specs.declared.stmt.Stmt.TheOpen.{Stmt-F, Arm-F}
 use Rattle.v_syntax.specs.declared.stmt.Stmt.TheFolds.{fold-Arm, fold-roll-Stmt, fold-roll-Arm}
-use Rattle.v_meaning.specs.Names.{Kind, Input, Net, Variable, Memory, Entry, entry_of, within_entry}
+use Rattle.v_meaning.specs.declared.names.Kind.{Kind}
+use Rattle.v_meaning.specs.declared.names.Kind.TheVariants.{Input, Net, Variable, Memory}
+use Rattle.v_meaning.specs.declared.names.Entry.{Entry}
+use Rattle.v_meaning.specs.Names.{entry_of, within_entry}
 use Rattle.v_meaning.specs.Expressions.{constant_step}
 use Rattle.v_meaning.specs.Declarations.{constant_value}
 use Rattle.v_meaning.specs.Designs.{open_bits_of, total}

@@ -5,8 +5,9 @@ use Rattle.v_syntax.specs.declared.expr.Spelling.TheVariants as s
 use Rattle.v_syntax.specs.declared.stmt.AssignKind.{AssignKind}
 use Rattle.v_syntax.specs.declared.stmt.AssignKind.TheVariants.{Blocking, Nonblocking}
 use Rattle.v_syntax.specs.declared.module.Event.TheVariants.{Posedge, Any}
-use Rattle.v_meaning.specs.Names.{Kind, Entry}
-use Rattle.v_meaning.specs.Names as k
+use Rattle.v_meaning.specs.declared.names.Kind.{Kind}
+use Rattle.v_meaning.specs.declared.names.Entry.{Entry}
+use Rattle.v_meaning.specs.declared.names.Kind.TheVariants as k
 use Rattle.v_meaning.specs.Marks.{Declares, Valued, Used, Bare, Indexed, Digits, Joined}
 use Rattle.v_meaning.specs.MarkRules.{declared_twice, used_early, is_wrong_number, is_wrong_form, is_part, too_wide, wrong_z}
 use Rattle.v_meaning.specs.ConstantRules.{is_vector_range, is_address_range}

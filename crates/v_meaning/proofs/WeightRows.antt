@@ -12,7 +12,10 @@ use Rattle.v_syntax.specs.declared.stmt.Stmt.TheOpen as o
 use Rattle.v_syntax.specs.declared.stmt.Stmt.TheFolds.{fold-roll-Stmt}
 use Rattle.v_meaning.specs.Literals.{literal_of}
 use Rattle.v_meaning.specs.Senses.{Sense, class_of}
-use Rattle.v_meaning.specs.Names.{Kind, Input, Variable, Entry, entry_of, read}
+use Rattle.v_meaning.specs.declared.names.Kind.{Kind}
+use Rattle.v_meaning.specs.declared.names.Kind.TheVariants.{Input, Variable}
+use Rattle.v_meaning.specs.declared.names.Entry.{Entry}
+use Rattle.v_meaning.specs.Names.{entry_of, read}
 use Rattle.v_meaning.specs.Expressions.{sense_step, sense_of, constant_step, is_constant, number_sense, open_at}
 use Rattle.v_meaning.specs.Weights.{Weighed, weighed_by, weight_step, weight_at, condition_weight, stmt_weight_step, stmt_weight, ArmWeight}
 use Rattle.v_meaning.proofs.Variants.{fold_number, fold_name, para_number, para_name, para_chain}

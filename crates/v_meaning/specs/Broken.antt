@@ -4,7 +4,7 @@ use Rattle.lz_base.specs.declared.rule.Rule.{Rule}
 use Rattle.lz_base.specs.declared.rule.Rule.TheVariants as r
 use Rattle.lz_base.specs.declared.fault.Fault.{Fault}
 use Rattle.v_syntax.specs.declared.module.Module.{Module}
-use Rattle.v_meaning.specs.Names.{Entry}
+use Rattle.v_meaning.specs.declared.names.Entry.{Entry}
 use Rattle.v_meaning.specs.Declarations.{names_of}
 use Rattle.v_meaning.specs.Marks.{Mark, module_marks}
 use Rattle.v_meaning.specs.MarkRules.{place_if, declared_twice, used_early, declared_in, valued_in, wrong_number, wrong_form, wrong_part, unsized_part, too_wide, second_default, wrong_z}

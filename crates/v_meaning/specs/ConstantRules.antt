@@ -28,7 +28,8 @@ use Rattle.v_syntax.specs.declared.module.Item.{Item}
 use Rattle.v_syntax.specs.declared.module.Item.TheVariants as i
 use Rattle.v_syntax.specs.declared.module.Module.{Module}
 use Rattle.v_meaning.specs.Literals.{is_unsized}
-use Rattle.v_meaning.specs.Names.{Entry, or_zero, span}
+use Rattle.v_meaning.specs.declared.names.Entry.{Entry}
+use Rattle.v_meaning.specs.Names.{or_zero, span}
 use Rattle.v_meaning.specs.Expressions.{is_constant, number_by_itself}
 use Rattle.v_meaning.specs.Statements.{label_items}
 use Rattle.v_meaning.specs.Declarations.{joined_lists, constant_value, Roles, roles_of, parameter_entry, behind_parameters, behind_ports, behind_item, names_of}

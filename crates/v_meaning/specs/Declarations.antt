@@ -28,8 +28,10 @@ use Rattle.v_syntax.specs.declared.module.Item.TheVariants as i
 use Rattle.v_syntax.specs.declared.module.Module.{Module}
 use Rattle.v_meaning.specs.Views.{no_view}
 use Rattle.v_meaning.specs.Senses.{Sense, constant, assigned}
-use Rattle.v_meaning.specs.Names.{Kind, Entry, or_zero, span}
-use Rattle.v_meaning.specs.Names as k
+use Rattle.v_meaning.specs.declared.names.Kind.{Kind}
+use Rattle.v_meaning.specs.declared.names.Entry.{Entry}
+use Rattle.v_meaning.specs.Names.{or_zero, span}
+use Rattle.v_meaning.specs.declared.names.Kind.TheVariants as k
 use Rattle.v_meaning.specs.Expressions.{sense_of}
 
 -- ---- what the processes make of names

@@ -8,9 +8,13 @@ use Rattle.v_syntax.specs.declared.expr.Expr.TheFolds.{fold-Expr}
 use Rattle.v_syntax.specs.declared.expr.Number.{Number}
 use Rattle.v_syntax.specs.declared.expr.BinaryOperator.{BinaryOperator}
 use Rattle.v_meaning.specs.Views.{View}
-use Rattle.v_meaning.specs.Literals.{Literal, literal_of, literal_value, digit_in, is_x, is_z}
+use Rattle.v_meaning.specs.declared.literal.Literal.{Literal}
+use Rattle.v_meaning.specs.Literals.{literal_of, literal_value, digit_in, is_x, is_z}
 use Rattle.v_meaning.specs.Senses.{Sense, leaf, constant, prefixed, chained, chosen, joined, replicated, recast}
-use Rattle.v_meaning.specs.Names.{Kind, Parameter, Entry, entry_of, read, selected, or_zero, read_part}
+use Rattle.v_meaning.specs.declared.names.Kind.{Kind}
+use Rattle.v_meaning.specs.declared.names.Kind.TheVariants.{Parameter}
+use Rattle.v_meaning.specs.declared.names.Entry.{Entry}
+use Rattle.v_meaning.specs.Names.{entry_of, read, selected, or_zero, read_part}
 
 -- the number of a site, by its place in the text
 abbrev pub number_of_place : List ℕ → ℕ → ℕ

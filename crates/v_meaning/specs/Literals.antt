@@ -4,14 +4,7 @@ use Rattle.std.specs.List.{list_any}
 use Rattle.v_syntax.specs.Numbers.{is_white, is_binary, is_octal, is_decimal, is_digit, is_unknown_digit}
 use Rattle.v_syntax.specs.declared.expr.Spelling.{Spelling}
 use Rattle.v_syntax.specs.declared.expr.Spelling.TheVariants as s
-
--- A word some bits of which may be unknown (x) or of high impedance (z): a width, a sign, and three masks.
-pub record Literal : Type 0 where
-  pub width : ℕ
-  pub signed : Bool
-  pub ones : ℕ
-  pub unknown : ℕ
-  pub impedance : ℕ
+use Rattle.v_meaning.specs.declared.literal.Literal.{Literal}
 
 -- x
 abbrev pub is_x : ℕ → Bool

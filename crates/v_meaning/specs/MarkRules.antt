@@ -4,7 +4,10 @@ use Rattle.lz_base.specs.Names.{is_among}
 use Rattle.v_syntax.specs.declared.expr.Spelling.{Spelling}
 use Rattle.v_syntax.specs.declared.expr.Spelling.TheVariants as s
 use Rattle.v_meaning.specs.Literals.{decimal_value, digit_in, is_x, is_z}
-use Rattle.v_meaning.specs.Names.{Kind, Parameter, Memory, Entry, entry_of}
+use Rattle.v_meaning.specs.declared.names.Kind.{Kind}
+use Rattle.v_meaning.specs.declared.names.Kind.TheVariants.{Parameter, Memory}
+use Rattle.v_meaning.specs.declared.names.Entry.{Entry}
+use Rattle.v_meaning.specs.Names.{entry_of}
 use Rattle.v_meaning.specs.Marks.{Form, Bare, Indexed, PartOf, Mark, Declares, Valued, Used, Digits, UnsizedPart, Joined, Again}
 
 -- a place, where a test holds

@@ -35,7 +35,8 @@ use Rattle.v_syntax.specs.declared.module.Item.TheVariants as i
 use Rattle.v_syntax.specs.declared.module.Module.{Module}
 use Rattle.v_meaning.specs.Literals.{is_unsized}
 use Rattle.v_meaning.specs.Senses.{joined}
-use Rattle.v_meaning.specs.Names.{Entry, or_zero}
+use Rattle.v_meaning.specs.declared.names.Entry.{Entry}
+use Rattle.v_meaning.specs.Names.{or_zero}
 use Rattle.v_meaning.specs.Expressions.{sense_of, number_by_itself}
 use Rattle.v_meaning.specs.Targets.{target_of}
 use Rattle.v_meaning.specs.Declarations.{joined_lists, constant_value}

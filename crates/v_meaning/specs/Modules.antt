@@ -14,8 +14,10 @@ use Rattle.v_syntax.specs.declared.module.Item.{Item}
 use Rattle.v_syntax.specs.declared.module.Item.TheVariants as i
 use Rattle.v_syntax.specs.declared.module.Module.{Module}
 use Rattle.v_meaning.specs.Senses.{assigned}
-use Rattle.v_meaning.specs.Names.{Kind, Entry, entry_of, word_of}
-use Rattle.v_meaning.specs.Names as k
+use Rattle.v_meaning.specs.declared.names.Kind.{Kind}
+use Rattle.v_meaning.specs.declared.names.Entry.{Entry}
+use Rattle.v_meaning.specs.Names.{entry_of, word_of}
+use Rattle.v_meaning.specs.declared.names.Kind.TheVariants as k
 use Rattle.v_meaning.specs.Expressions.{sense_of}
 use Rattle.v_meaning.specs.Acts.{Acts}
 use Rattle.v_meaning.specs.Statements.{acts_of}

@@ -1,29 +1,10 @@
 -- The declared names, and what reading them gives (1364-2005, 4, 5.2).
-use Rattle.std.specs.Prelude.{ℕ, ◌+◌, ◌-◌, ◌/◌, ◌%◌, ◌^◌, List, [], get_or, slice_index, Bool, false, ◌&&◌, if◌then◌else◌, nat_le, nat_lt, Option, None, Some, bytes_eq, find}
+use Rattle.std.specs.Prelude.{ℕ, ◌+◌, ◌-◌, ◌/◌, ◌%◌, ◌^◌, List, [], get_or, slice_index, false, ◌&&◌, if◌then◌else◌, nat_le, nat_lt, Option, None, Some, bytes_eq, find}
+use Rattle.v_meaning.specs.declared.names.Kind.{Kind}
+use Rattle.v_meaning.specs.declared.names.Kind.TheVariants.{Parameter, Clock, Input, Net, Combinational, Variable, Memory}
+use Rattle.v_meaning.specs.declared.names.Entry.{Entry}
 use Rattle.v_meaning.specs.Views.{View}
 use Rattle.v_meaning.specs.Senses.{Sense, leaf, index_of}
-
--- What a name is declared as. The number says which word of a view is its own, or which memory.
-pub data Kind : Type 0 where
-  Parameter : ℕ → Kind  -- a parameter of this value (4.10)
-  Clock : Kind  -- the input in the first posedge event of the text
-  Input : ℕ → Kind  -- another input net
-  Net : ℕ → Kind  -- a wire or an output net (4.2.1)
-  Combinational : ℕ → Kind  -- a variable that is a target in a combinational process
-  Variable : ℕ → Kind  -- another variable (4.2.2)
-  Memory : ℕ → ℕ → ℕ → Kind  -- its number, its lowest address, and how many words it has (4.9)
-
--- A declared name and its place; width and sign of its word; the number of the lowest bit, and whether a range was
--- written (4.3); and the value that a variable has before the first cycle, where one is declared.
-pub record Entry : Type 0 where
-  pub name : List ℕ
-  pub at : ℕ
-  pub kind : Kind
-  pub width : ℕ
-  pub signed : Bool
-  pub low : ℕ
-  pub is_vector : Bool
-  pub first : Option ℕ
 
 -- what stands for a name that is declared nowhere: it is no parameter, and reads 0
 abbrev pub undeclared : Entry

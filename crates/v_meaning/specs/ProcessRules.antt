@@ -7,8 +7,10 @@ use Rattle.v_syntax.specs.declared.stmt.AssignKind.{AssignKind}
 use Rattle.v_syntax.specs.declared.stmt.AssignKind.TheVariants as a
 use Rattle.v_syntax.specs.declared.module.Event.{Event}
 use Rattle.v_syntax.specs.declared.module.Event.TheVariants as w
-use Rattle.v_meaning.specs.Names.{Kind, Entry, entry_of}
-use Rattle.v_meaning.specs.Names as k
+use Rattle.v_meaning.specs.declared.names.Kind.{Kind}
+use Rattle.v_meaning.specs.declared.names.Entry.{Entry}
+use Rattle.v_meaning.specs.Names.{entry_of}
+use Rattle.v_meaning.specs.declared.names.Kind.TheVariants as k
 use Rattle.v_meaning.specs.MarkRules.{place_if}
 use Rattle.v_meaning.specs.Uses.{Access, Read, Write, all_bits, AssignUse, ProcessUse, Uses}
 

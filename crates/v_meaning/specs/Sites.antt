@@ -22,7 +22,10 @@ use Rattle.v_syntax.specs.declared.module.Item.{Item}
 use Rattle.v_syntax.specs.declared.module.Item.TheVariants as i
 use Rattle.v_meaning.specs.Literals.{literal_of, open_bits}
 use Rattle.v_meaning.specs.Senses.{constant}
-use Rattle.v_meaning.specs.Names.{Kind, Memory, Entry, entry_of, within_entry}
+use Rattle.v_meaning.specs.declared.names.Kind.{Kind}
+use Rattle.v_meaning.specs.declared.names.Kind.TheVariants.{Memory}
+use Rattle.v_meaning.specs.declared.names.Entry.{Entry}
+use Rattle.v_meaning.specs.Names.{entry_of, within_entry}
 use Rattle.v_meaning.specs.Expressions.{sense_of, is_constant}
 use Rattle.v_meaning.specs.Statements.{label_items}
 use Rattle.v_meaning.specs.Declarations.{joined_lists}

@@ -16,7 +16,7 @@ use Rattle.v_syntax.specs.declared.stmt.Stmt.TheFolds.{fold-Stmt}
 use Rattle.v_meaning.specs.Views.{View, Write}
 use Rattle.v_meaning.specs.Literals.{literal_of}
 use Rattle.v_meaning.specs.Senses.{Sense, own, assigned, extended}
-use Rattle.v_meaning.specs.Names.{Entry}
+use Rattle.v_meaning.specs.declared.names.Entry.{Entry}
 use Rattle.v_meaning.specs.Expressions.{sense_of, number_by_itself}
 use Rattle.v_meaning.specs.Targets.{TargetSense, target_of}
 use Rattle.v_meaning.specs.Acts.{Acts, End, Branch, Blocking, Nonblocking, sequence}

@@ -7,7 +7,10 @@ use Rattle.v_syntax.specs.declared.stmt.Target.TheFolds.{fold-Target}
 use Rattle.v_meaning.specs.Views.{View, Place, Write}
 use Rattle.v_meaning.specs.Views as p
 use Rattle.v_meaning.specs.Senses.{constant, index_of}
-use Rattle.v_meaning.specs.Names.{Kind, Memory, Combinational, Variable, Entry, entry_of, within, or_zero, span}
+use Rattle.v_meaning.specs.declared.names.Kind.{Kind}
+use Rattle.v_meaning.specs.declared.names.Kind.TheVariants.{Memory, Combinational, Variable}
+use Rattle.v_meaning.specs.declared.names.Entry.{Entry}
+use Rattle.v_meaning.specs.Names.{entry_of, within, or_zero, span}
 use Rattle.v_meaning.specs.Expressions.{sense_of}
 
 -- How many bits a target has, and the writes that a value of so many bits becomes; the indices are evaluated in the view

@@ -25,7 +25,10 @@ use Rattle.v_syntax.specs.declared.module.Item.{Item}
 use Rattle.v_syntax.specs.declared.module.Item.TheVariants as i
 use Rattle.v_syntax.specs.declared.module.Module.{Module}
 use Rattle.v_meaning.specs.Views.{no_view}
-use Rattle.v_meaning.specs.Names.{Kind, Memory, Entry, entry_of, within, or_zero, span}
+use Rattle.v_meaning.specs.declared.names.Kind.{Kind}
+use Rattle.v_meaning.specs.declared.names.Kind.TheVariants.{Memory}
+use Rattle.v_meaning.specs.declared.names.Entry.{Entry}
+use Rattle.v_meaning.specs.Names.{entry_of, within, or_zero, span}
 use Rattle.v_meaning.specs.Expressions.{sense_of, is_constant}
 use Rattle.v_meaning.specs.Statements.{Comparison, comparison_of, value_at, all_items}
 use Rattle.v_meaning.specs.Declarations.{constant_value}

@@ -22,8 +22,10 @@ use Rattle.v_syntax.specs.declared.module.Declared.{Declared}
 use Rattle.v_syntax.specs.declared.module.Item.{Item}
 use Rattle.v_syntax.specs.declared.module.Item.TheVariants as i
 use Rattle.v_meaning.specs.Senses.{Class, Shared, Compared, Shifted, Logical, class_of, is_through}
-use Rattle.v_meaning.specs.Names.{Kind, Entry, entry_of}
-use Rattle.v_meaning.specs.Names as k
+use Rattle.v_meaning.specs.declared.names.Kind.{Kind}
+use Rattle.v_meaning.specs.declared.names.Entry.{Entry}
+use Rattle.v_meaning.specs.Names.{entry_of}
+use Rattle.v_meaning.specs.declared.names.Kind.TheVariants as k
 use Rattle.v_meaning.specs.Expressions.{is_constant}
 use Rattle.v_meaning.specs.Statements.{comparison_of, all_items}
 use Rattle.v_meaning.specs.Targets.{target_of}

@@ -9,5 +9,9 @@
 #![tactic(auto)]
 
 mod law;
+mod literal;
+mod names;
 
 pub use law::text_order_is_complete;
+pub use literal::Literal;
+pub use names::{Entry, Kind};

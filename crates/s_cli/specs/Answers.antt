@@ -62,9 +62,9 @@ abbrev pub IsRefusal : Option Command → List (List ℕ) → Fault → Type 0
 IsRefusal None files fault = ⊥
 IsRefusal (Some c) files fault = IsRefusalBy c files fault
 
-abbrev pub IsComplete : Option Command → List (List ℕ) → Status → Type 0
-IsComplete None files result = ⊤
-IsComplete (Some c) files result = IsJudgedBy c files result
+abbrev pub IsCalledFor : Option Command → List (List ℕ) → Status → Type 0
+IsCalledFor None files result = ⊤
+IsCalledFor (Some c) files result = IsJudgedBy c files result
 
 -- the output, or the fault for which a file is refused, and that it is the one called for
 abbrev pub Decides : Command → List (List ℕ) → Result (Vec ℕ Global) Stop → Type 0

@@ -2,7 +2,7 @@ ghost use Rattle.std.specs.Prelude.{◌≡◌, ◌<◌, ◌≤◌, ◌↔◌, Li
 ghost use Rattle.std.specs.Io.KnownBytes.{Appends};
 ghost use Rattle.lz_base.specs.Causes.{Rose};
 ghost use Rattle.s_cli.specs.Status.{OnDone, OnWriteFault, OnReadFault, IfRefused, OnSilent, Writes, IsFailure, IsUnlessMemory, status_of, status_line};
-ghost use Rattle.s_cli.specs.Answers.{IfTold, IsOutput, IsOutputBy, IsRefusal, IsRefusalBy, IsComplete, IsJudgedBy};
+ghost use Rattle.s_cli.specs.Answers.{IfTold, IsOutput, IsOutputBy, IsRefusal, IsRefusalBy, IsCalledFor, IsJudgedBy};
 ghost use Rattle.s_cli.specs.Texts.{IsMissing};
 ghost use Rattle.s_cli.specs.Words.{IsForm, bytes_of, command_of, limits_of, names_in};
 
@@ -51,7 +51,7 @@ fn execute<F: Files, O: Sink>(alloc: Global, words: &[String], files: &mut F, ou
     ensures done { OnDone result ((text : List ℕ) × IfTold (F.told files.old) (names_in words.now) (λ contents. IsOutput (command_of words.now) contents text) × Appends (O.written out.old) (O.written out.new) text) }
     ensures part { OnWriteFault result ((text : List ℕ) × (sent : ℕ) × IfTold (F.told files.old) (names_in words.now) (λ contents. IsOutput (command_of words.now) contents text) × Appends (O.written out.old) (O.written out.new) (take sent text)) }
     ensures silent { OnSilent result (out.new ≡ out.old) }
-    ensures complete { (Rose (F.faults files.old) (F.faults files.new) → ⊥) → (Rose (O.faults out.old) (O.faults out.new) → ⊥) → IfTold (F.told files.old) (names_in words.now) (λ contents. IsComplete (command_of words.now) contents result) }
+    ensures complete { (Rose (F.faults files.old) (F.faults files.new) → ⊥) → (Rose (O.faults out.old) (O.faults out.new) → ⊥) → IfTold (F.told files.old) (names_in words.now) (λ contents. IsCalledFor (command_of words.now) contents result) }
 {
     let Some(command) = command(words) else {
         return Status::Usage;
@@ -107,7 +107,7 @@ pub fn run<F: Files, O: Sink, E: Sink>(
     ensures silent { OnSilent result (out.new ≡ out.old) }
 
     // Where no call failed, the status is the one that the files call for, unless memory was wanting.
-    ensures complete { (Rose (F.faults files.old) (F.faults files.new) → ⊥) → (Rose (O.faults out.old) (O.faults out.new) → ⊥) → IfTold (F.told files.old) (names_in words.now) (λ contents. IsComplete (command_of words.now) contents result) }
+    ensures complete { (Rose (F.faults files.old) (F.faults files.new) → ⊥) → (Rose (O.faults out.old) (O.faults out.new) → ⊥) → IfTold (F.told files.old) (names_in words.now) (λ contents. IsCalledFor (command_of words.now) contents result) }
 
     ensures line { Writes (E.faults err.old) (E.faults err.new) (E.written err.old) (E.written err.new) (status_line result) }
 {

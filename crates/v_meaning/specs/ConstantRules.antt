@@ -1,6 +1,5 @@
 -- E7: a parameter value, initialiser, range, replication count or bound that has no proper value (1364-2005, 4.3, 4.9,
--- 4.10.1, 5.2.1 and 5.1.14). The constant expressions and ranges are walked in text order up to the first fault, each over
--- the names that are declared before it: a use of a later parameter breaks an earlier rule.
+-- 4.10.1, 5.2.1 and 5.1.14). The constant expressions and ranges are walked in text order up to the first fault.
 use Rattle.std.specs.Prelude.{ℕ, ◌*◌, List, [], ◌∷◌, ◌++◌, map, flat_map, take, Bool, true, false, not, ◌&&◌, nat_le, min, max, Option, None, Some}
 use Rattle.std.specs.List.{list_all}
 use Rattle.v_syntax.specs.declared.expr.Expr.{Expr}
@@ -33,7 +32,7 @@ use Rattle.v_meaning.specs.declared.names.Entry.{Entry}
 use Rattle.v_meaning.specs.Names.{or_zero, span}
 use Rattle.v_meaning.specs.Expressions.{is_constant, number_by_itself}
 use Rattle.v_meaning.specs.Statements.{label_items}
-use Rattle.v_meaning.specs.Declarations.{joined_lists, constant_value, Roles, roles_of, parameter_entry, behind_parameters, behind_ports, behind_item}
+use Rattle.v_meaning.specs.Declarations.{joined_lists, constant_value, Roles, roles_of, parameter_entry, behind_parameters, behind_ports, behind_item, names_of}
 use Rattle.v_meaning.specs.Marks.{all_width}
 use Rattle.v_meaning.specs.MarkRules.{place_if}
 
@@ -185,27 +184,27 @@ abbrev pub wire_faults : List Entry → Option Placed → List ℕ
 wire_faults names None = []
 wire_faults names (Some x) = expr_faults names x.expr
 
--- over the names before the item
-abbrev pub item_faults : List Entry → Item → List ℕ
-item_faults names (i.Parameters group) = parameter_faults names group
-item_faults names (i.LocalParameters group) = parameter_faults names group
-item_faults names (i.Wires signed range nets) = vector_faults names range ++ flat_map (λ (d : Declared). wire_faults names d.value) nets
-item_faults names (i.Regs signed range variables) = vector_faults names range ++ flat_map (variable_faults names) variables
-item_faults names (i.Assigns settings) = flat_map (λ (s : Setting). expr_faults names s.value.expr) settings
-item_faults names (i.Always event body) = stmt_faults names body
+-- over the names before the item; what is assigned, and processes, over all names
+abbrev pub item_faults : List Entry → List Entry → Item → List ℕ
+item_faults all names (i.Parameters group) = parameter_faults names group
+item_faults all names (i.LocalParameters group) = parameter_faults names group
+item_faults all names (i.Wires signed range nets) = vector_faults names range ++ flat_map (λ (d : Declared). wire_faults all d.value) nets
+item_faults all names (i.Regs signed range variables) = vector_faults names range ++ flat_map (variable_faults names) variables
+item_faults all names (i.Assigns settings) = flat_map (λ (s : Setting). expr_faults all s.value.expr) settings
+item_faults all names (i.Always event body) = stmt_faults all body
 
-abbrev pub items_faults : Roles → List Entry → List Item → List ℕ
-items_faults roles names [] = []
-items_faults roles names (x ∷ items) = item_faults names x ++ items_faults roles (behind_item roles names x) items
+abbrev pub items_faults : Roles → List Entry → List Entry → List Item → List ℕ
+items_faults roles all names [] = []
+items_faults roles all names (x ∷ items) = item_faults all names x ++ items_faults roles all (behind_item roles names x) items
 
-abbrev pub ports_faults : Roles → List Entry → List PortGroup → List Item → List ℕ
-ports_faults roles names [] items = items_faults roles names items
-ports_faults roles names (group ∷ groups) items = port_faults names group ++ ports_faults roles (behind_ports roles names group) groups items
+abbrev pub ports_faults : Roles → List Entry → List Entry → List PortGroup → List Item → List ℕ
+ports_faults roles all names [] items = items_faults roles all names items
+ports_faults roles all names (group ∷ groups) items = port_faults names group ++ ports_faults roles all (behind_ports roles names group) groups items
 
-abbrev pub header_faults : Roles → List Entry → List ParameterGroup → Module → List ℕ
-header_faults roles names [] m = ports_faults roles names m.ports m.items
-header_faults roles names (group ∷ groups) m = parameter_faults names group ++ header_faults roles (behind_parameters names group) groups m
+abbrev pub header_faults : Roles → List Entry → List Entry → List ParameterGroup → Module → List ℕ
+header_faults roles all names [] m = ports_faults roles all names m.ports m.items
+header_faults roles all names (group ∷ groups) m = parameter_faults names group ++ header_faults roles all (behind_parameters names group) groups m
 
 -- the first fault alone
 abbrev pub improper : Module → List ℕ
-improper m = take 1 (header_faults (roles_of m.items) [] m.parameters m)
+improper m = take 1 (header_faults (roles_of m.items) (names_of m) [] m.parameters m)

@@ -66,7 +66,7 @@ lane_bit : (j : ℕ) (bit : Bool) → j < 64 → lane j (if bit then 2 ^ 64 - 1 
 lane_bit j false h = lane_zero j
 lane_bit j true h = lane_ones j h
 
-chosen : (by low high : Bool) → xor low (xor low high && by) ≡ (if by then high else low)
+pub chosen : (by low high : Bool) → xor low (xor low high && by) ≡ (if by then high else low)
 unfolding xor
 chosen false false false = refl
 chosen false false true = refl

@@ -1,5 +1,6 @@
 -- What a look-up table shows over words of 64 bits.
-use Rattle.std.specs.Prelude.{◌≡◌, ◌<◌, ℕ, List, [], ◌∷◌, map, Bool, if◌then◌else◌, slice_index_or}
+use Rattle.std.specs.Prelude.{◌≡◌, ◌<◌, ◌/◌, ◌%◌, ◌^◌, ℕ, zero, suc, List, [], ◌∷◌, length, map, Bool, if◌then◌else◌, slice_index_or}
+use Rattle.std.specs.Int.Bits.{bit_xor}
 use Rattle.lz_base.specs.Bits.{number_of}
 use Rattle.n_cells.specs.Run.{table_bit}
 use Rattle.n_sim.specs.Lanes.{lane, stream}
@@ -12,6 +13,12 @@ Selects table leaves word = (j : ℕ) → j < 64 → lane j word ≡ table_bit t
 abbrev pub AreTables : List ℕ → ℕ → ℕ → Type 0
 AreTables tables a b = (t : ℕ) → t < 16 → Selects t (a ∷ b ∷ []) (slice_index_or tables t 0)
 
--- the same over the first two leaves of which these are all tables, and more leaves
-abbrev pub SelectsFrom : List ℕ → ℕ → List ℕ → ℕ → Type 0
-SelectsFrom tables table more word = (a b : ℕ) → AreTables tables a b → Selects table (a ∷ b ∷ more) word
+-- A table of two leaves and so many more, mixed: its low part is that of the table's lower half, and behind it stands that
+-- of the exclusive or of both halves, each mixed in turn; a table of two leaves is itself.
+abbrev pub IsMixed : ℕ → ℕ → ℕ → Type 0
+IsMixed zero table mixed = mixed % 16 ≡ table % 16
+IsMixed (suc more) table mixed = IsMixed more table mixed × IsMixed more (bit_xor table (table / 2 ^ (2 ^ suc (suc more)))) (mixed / 2 ^ (2 ^ suc (suc more)))
+
+-- The word is that of the table which is mixed so, over the first two leaves of which these are all tables, and more leaves.
+abbrev pub MixesFrom : List ℕ → ℕ → List ℕ → ℕ → Type 0
+MixesFrom tables mixed more word = (a b table : ℕ) → AreTables tables a b → IsMixed (length more) table mixed → Selects table (a ∷ b ∷ more) word

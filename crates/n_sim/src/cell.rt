@@ -32,7 +32,7 @@ fn put_cell(nets: &mut [bool], next: usize, kind: &Kind) -> usize
 {
     match kind {
         Kind::Lut { leaves, table } => {
-            nets[next] = bit_at(*table, leaves.index(nets));
+            nets[next] = bit_at(table.bits(), leaves.index(nets));
             next + 1
         }
         Kind::Carry(a, b, c) => {

@@ -29,7 +29,7 @@ fn put_lane_cell(nets: &mut [u64], next: usize, kind: &Kind) -> usize
 {
     match kind {
         Kind::Lut { leaves, table } => {
-            nets[next] = leaves.word(nets, *table);
+            nets[next] = leaves.word(nets, table);
             next + 1
         }
         Kind::Carry(a, b, c) => {

@@ -16,6 +16,7 @@ mod lanes;
 mod room;
 mod select;
 mod sim;
+mod table;
 mod wires;
 mod word;
 

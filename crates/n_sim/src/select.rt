@@ -1,7 +1,8 @@
-ghost use Rattle.std.specs.Prelude.{◌≡◌, ◌<◌, ◌≤◌, ◌%◌, ℕ, [], ◌∷◌, length, take, Bool, if◌then◌else◌, slice_index_or};
+ghost use Rattle.std.specs.Prelude.{◌≡◌, ◌<◌, ◌≤◌, ◌%◌, ℕ, [], ◌∷◌, length, take, Bool, ◌&&◌, if◌then◌else◌, slice_index_or};
+ghost use Rattle.std.specs.Bool.{xor};
 ghost use Rattle.n_cells.specs.Leaves.{most_leaves};
 ghost use Rattle.n_sim.specs.Lanes.{lane};
-ghost use Rattle.n_sim.specs.Selects.{Selects, SelectsFrom, AreTables};
+ghost use Rattle.n_sim.specs.Selects.{Selects, MixesFrom, IsMixed, AreTables};
 
 use crate::cell::bit_at;
 use n_cells::LEAVES;
@@ -43,52 +44,60 @@ fn tables_of(a: u64, b: u64) -> [u64; 16]
     tables
 }
 
-// The word of a table's low four bits.
-fn pick(tables: &[u64; 16], table: u64) -> u64
-    ensures { SelectsFrom tables.now table [] result }
+// The exclusive or of one word and the bits of another that a third lets through.
+fn blend(by: u64, low: u64, high: u64) -> u64
+    ensures { (j : ℕ) → lane j result ≡ xor (lane j low) (lane j high && lane j by) }
 {
-    tables[(table % 16) as usize]
+    low ^ (high & by)
 }
 
-fn select_three(tables: &[u64; 16], table: u64, c: u64) -> u64
-    ensures { SelectsFrom tables.now table (c ∷ []) result }
+// The word of a mixed table's low four bits.
+fn pick(tables: &[u64; 16], mixed: u64) -> u64
+    ensures { MixesFrom tables.now mixed [] result }
 {
-    choose(c, pick(tables, table), pick(tables, table >> 4))
+    tables[(mixed % 16) as usize]
 }
 
-fn select_four(tables: &[u64; 16], table: u64, c: u64, d: u64) -> u64
-    ensures { SelectsFrom tables.now table (c ∷ d ∷ []) result }
+fn mix_three(tables: &[u64; 16], mixed: u64, c: u64) -> u64
+    ensures { MixesFrom tables.now mixed (c ∷ []) result }
 {
-    choose(
+    blend(c, pick(tables, mixed), pick(tables, mixed >> 4))
+}
+
+fn mix_four(tables: &[u64; 16], mixed: u64, c: u64, d: u64) -> u64
+    ensures { MixesFrom tables.now mixed (c ∷ d ∷ []) result }
+{
+    blend(
         d,
-        select_three(tables, table, c),
-        select_three(tables, table >> 8, c),
+        mix_three(tables, mixed, c),
+        mix_three(tables, mixed >> 8, c),
     )
 }
 
-fn select_five(tables: &[u64; 16], table: u64, c: u64, d: u64, e: u64) -> u64
-    ensures { SelectsFrom tables.now table (c ∷ d ∷ e ∷ []) result }
+fn mix_five(tables: &[u64; 16], mixed: u64, c: u64, d: u64, e: u64) -> u64
+    ensures { MixesFrom tables.now mixed (c ∷ d ∷ e ∷ []) result }
 {
-    choose(
+    blend(
         e,
-        select_four(tables, table, c, d),
-        select_four(tables, table >> 16, c, d),
+        mix_four(tables, mixed, c, d),
+        mix_four(tables, mixed >> 16, c, d),
     )
 }
 
-fn select_six(tables: &[u64; 16], table: u64, c: u64, d: u64, e: u64, f: u64) -> u64
-    ensures { SelectsFrom tables.now table (c ∷ d ∷ e ∷ f ∷ []) result }
+fn mix_six(tables: &[u64; 16], mixed: u64, c: u64, d: u64, e: u64, f: u64) -> u64
+    ensures { MixesFrom tables.now mixed (c ∷ d ∷ e ∷ f ∷ []) result }
 {
-    choose(
+    blend(
         f,
-        select_five(tables, table, c, d, e),
-        select_five(tables, table >> 32, c, d, e),
+        mix_five(tables, mixed, c, d, e),
+        mix_five(tables, mixed >> 32, c, d, e),
     )
 }
 
 // The word that a table shows over so many of these words, the first word's bit lowest.
-pub(crate) fn select(table: u64, leaves: &[u64; LEAVES], count: u32) -> u64
-    requires { count ≤ most_leaves }
+pub(crate) fn select(table: u64, mixed: u64, leaves: &[u64; LEAVES], count: u32) -> u64
+    requires count { count ≤ most_leaves }
+    requires mixed { IsMixed 4 table mixed }
     ensures { Selects table (take count leaves.now) result }
 {
     let [a, b, c, d, e, f] = *leaves;
@@ -96,9 +105,9 @@ pub(crate) fn select(table: u64, leaves: &[u64; LEAVES], count: u32) -> u64
         0 => spread(bit_at(table, 0)),
         1 => select_one(table, a),
         2 => select_two(table, a, b),
-        3 => select_three(&tables_of(a, b), table, c),
-        4 => select_four(&tables_of(a, b), table, c, d),
-        5 => select_five(&tables_of(a, b), table, c, d, e),
-        _ => select_six(&tables_of(a, b), table, c, d, e, f),
+        3 => mix_three(&tables_of(a, b), mixed, c),
+        4 => mix_four(&tables_of(a, b), mixed, c, d),
+        5 => mix_five(&tables_of(a, b), mixed, c, d, e),
+        _ => mix_six(&tables_of(a, b), mixed, c, d, e, f),
     }
 }

@@ -5,7 +5,7 @@ ghost use Rattle.n_cells.specs.Run.{value_at, index_of, table_bit};
 ghost use Rattle.n_sim.specs.Lanes.{lane, stream};
 ghost use Rattle.n_sim.specs.Wires.{AreFilled};
 
-use crate::select::select;
+use crate::table::Table;
 use lz_base::{Num, OutOfMemory};
 use n_cells::LEAVES;
 use std::marker::Model;
@@ -51,12 +51,12 @@ impl Wires {
     }
 
     // The word that a table shows over the words of the leaves.
-    pub(crate) fn word(&self, words: &[u64], table: u64) -> u64
+    pub(crate) fn word(&self, words: &[u64], table: &Table) -> u64
         requires there { AllBelow (length words.now) self.now }
         requires some { 0 < length words.now }
-        ensures { (j : ℕ) → j < 64 → lane j result ≡ table_bit table (index_of (stream j words.now) self.now) }
+        ensures { (j : ℕ) → j < 64 → lane j result ≡ table_bit table.now (index_of (stream j words.now) self.now) }
     {
-        select(table, &words_at(words, &self.nets), self.count)
+        table.select(&words_at(words, &self.nets), self.count)
     }
 }
 

@@ -1,6 +1,6 @@
-use Rattle.n_sim.proofs.Selecting.{select_low}
 use Rattle.std.proofs.Common.{◌%◌, arith}
+use Rattle.n_sim.proofs.Selecting.{mix_low}
 use Rattle.n_sim.proofs.select.pick.Goals as goal
 
 pub returns : goal.returns
-returns c = λ a b all. select_low c.args.table a b _ (all (c.args.table % 16) (omega arith))
+returns c = mix_low c.args.tables.now c.args.mixed _ (λ a b all. all (c.args.mixed % 16) (omega arith))

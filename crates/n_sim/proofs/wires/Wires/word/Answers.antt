@@ -18,4 +18,4 @@ returns c = λ j h.
     ap (λ l. number_of (stream j (take c.self.inside.count l))) c.words_at.ensures
     ∙ index_at_lanes j c.args.words.now c.self.inside.count c.self.inside.nets
     ∙ ap (index_of (stream j c.args.words.now)) c.self.view_is in
-    c.select.ensures j h ∙ ap (table_bit c.args.table) index
+    c.select.ensures j h ∙ ap (table_bit c.args.table.now) index

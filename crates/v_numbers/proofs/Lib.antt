@@ -1,0 +1,4 @@
+pub mod Wrapped
+pub mod Digits
+pub mod Counted
+pub mod Padded

@@ -38,7 +38,7 @@ moved s r f (d ∷ ds) =
 less_one : (x y : ℕ) → 0 < x → x * y ≡ (x - 1) * y + y
 less_one x y h = let e : x ≡ suc (x - 1) = omega arith in ap (λ n. n * y) e ∙ suc-mul (x - 1) y
 
-power_split : (k w : ℕ) → w ≤ k → 2 ^ k ≡ 2 ^ (k - w) * 2 ^ w
+pub power_split : (k w : ℕ) → w ≤ k → 2 ^ k ≡ 2 ^ (k - w) * 2 ^ w
 power_split k w h = let e : k ≡ (k - w) + w = omega arith in ap (λ j. 2 ^ j) e ∙ pow-add 2 (k - w) w
 
 -- all ones before digits fill the word above them

@@ -1,6 +1,7 @@
 ghost use Rattle.std.specs.Prelude.{◌≡◌, ◌≤◌, ◌==◌, ◌||◌, nat_lt, false};
 ghost use Rattle.v_meaning.specs.Literals.{based_literal, decimal_value, behind_mark, behind_sign, digits_in, literal, literal_of};
 ghost use Rattle.v_meaning.specs.MarkRules.{is_wrong_number};
+ghost use Rattle.v_numbers.specs.Fit.{IsFit};
 
 use crate::accumulated::masks_of;
 use crate::decimal::decimal_up_to;
@@ -13,7 +14,8 @@ use v_words::cut;
 /// x or z goes on to the left where they are too few.
 pub fn literal(spelling: &Spelling) -> Literal
     requires { is_wrong_number spelling.now ≡ false }
-    ensures { result ≡ literal_of spelling.now }
+    ensures value { result ≡ literal_of spelling.now }
+    ensures fit { IsFit result }
 {
     match spelling {
         Spelling::Decimal(digits) => literal_behind(32, true, b'd', digits.bytes()),

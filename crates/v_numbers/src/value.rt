@@ -1,12 +1,13 @@
 ghost use Rattle.std.specs.Prelude.{◌≡◌, ◌≤◌, ◌<◌, ◌+◌, ◌^◌};
 ghost use Rattle.v_meaning.specs.Literals.{literal_value, open_bits, spread};
+ghost use Rattle.v_numbers.specs.Fit.{IsFit};
 
 use v_meaning::Literal;
 
 /// How many bits of a literal are open, those that are x.
 #[tactic(auto, using(crate::proofs::Counted::counted))]
 pub fn open_bits(literal: &Literal) -> u32
-    requires { literal.now.unknown < 2 ^ literal.now.width }
+    requires { IsFit literal.now }
     ensures { result ≡ open_bits literal.now }
 {
     literal.unknown.count_ones()
@@ -15,8 +16,7 @@ pub fn open_bits(literal: &Literal) -> u32
 /// The value of a literal, where its x bits are these, from the least up.
 #[tactic(auto, using(crate::proofs::Padded::power_grows))]
 pub fn value_with(literal: &Literal, bits: u128) -> u128
-    requires within { literal.now.width ≤ 128 }
-    requires apart { literal.now.ones + literal.now.unknown < 2 ^ literal.now.width }
+    requires { IsFit literal.now }
     ensures value { result ≡ literal_value literal.now bits }
     ensures below { result < 2 ^ literal.now.width }
 {

@@ -1,0 +1,4 @@
+pub mod Powers
+pub mod Parity
+pub mod Signs
+pub mod Splits

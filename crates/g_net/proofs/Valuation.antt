@@ -1,7 +1,7 @@
 -- The values that come out node after node: they stay where gates come behind, each gate's equation holds of them, and
 -- they are the one valuation of a network.
-use Rattle.std.proofs.Common.{◌≡◌, ◌==◌, ◌<◌, ◌≤◌, ◌/◌, ◌%◌, ℕ, ◌+◌, zero, suc, List, [], ◌∷◌, ◌++◌, length, take, get_or, Bool, true, false, ◌&&◌, refl, sym, ap, subst, ◌∙◌, arith, below_more, add-one, append_assoc, append-nil, length-append, add-zero, Some, slice_get}
-use Rattle.std.specs.Bool.{xor}
+use Rattle.std.proofs.Common.{◌≡◌, ◌==◌, ◌<◌, ◌≤◌, ◌/◌, ◌%◌, ℕ, ◌+◌, ◌*◌, zero, suc, List, [], ◌∷◌, ◌++◌, length, take, get_or, Bool, true, false, not, ◌&&◌, refl, sym, ap, subst, ◌∙◌, arith, below_more, add-one, append_assoc, append-nil, length-append, add-zero, Some, slice_get}
+use mathlib.Core.Bool.{xor}
 use Rattle.std.proofs.lemmas.List.{get_or-take, ext_get_or, get_or_append_left, get_or-append-add}
 use Rattle.std.proofs.Math.Seq.{take-append_seam}
 use Rattle.lz_base.specs.Bits.{low_bits, words_bits}
@@ -129,6 +129,13 @@ pub added_stands : (n m : NetworkValue) (gs : List Gate) (g : Gate) (node : ℕ)
     → StandsAt (record n { gates = gs }) node g
 added_stands n m gs g node e is at fine none reads = rw (is, at, ← e) (last_stands n g (formed_gate n m g e fine none reads))
 
+-- it is the gate behind those that were there
+pub added_place : (n m : NetworkValue) (gs : List Gate) (g : Gate) (node : ℕ) → n ≡ m → gs ≡ n.gates ++ g ∷ [] → node ≡ node_count m → node ≡ node_of (record n { gates = gs }) (length m.gates)
+added_place n m gs g node e is at =
+    let front : take (length n.gates) (n.gates ++ g ∷ []) ≡ n.gates = take-append_seam n.gates (g ∷ []) in
+    at ∙ sym (ap node_count e) ∙ ap (λ l. first_gate n + gate_nodes l) (sym front) ∙ ap (λ l. first_gate n + gate_nodes (take (length n.gates) l)) (sym is)
+    ∙ ap (λ (k : NetworkValue). first_gate n + gate_nodes (take (length k.gates) gs)) e
+
 -- where gates come behind, no literal that was there has another value
 pub grown_keeps : (old new : NetworkValue) → Grows old new → KeepsValues old new
 grown_keeps old new g = λ sources literal many h.
@@ -143,6 +150,29 @@ added_keeps n m gs g e is = grown_keeps m (record n { gates = gs }) (record {
   more = g ∷ [];
   grown = ap (λ l. record n { gates = l }) is ∙ ap (λ (k : NetworkValue). record k { gates = k.gates ++ g ∷ [] }) e;
 })
+
+xor_even : (b : Bool) → xor false b ≡ b
+unfolding xor
+xor_even false = refl
+xor_even true = refl
+
+xor_odd : (b : Bool) → xor true b ≡ not b
+unfolding xor
+xor_odd false = refl
+xor_odd true = refl
+
+-- the two literals of a node
+pub even_literal : (vs : List Bool) (node : ℕ) → literal_value vs (2 * node) ≡ value_at vs node
+even_literal vs node =
+    let half : 2 * node / 2 ≡ node = omega arith in
+    let low : 2 * node % 2 ≡ 0 = omega arith in
+    rw (half, low) (xor_even (value_at vs node))
+
+pub odd_literal : (vs : List Bool) (node : ℕ) → literal_value vs (2 * node + 1) ≡ not (value_at vs node)
+odd_literal vs node =
+    let half : (2 * node + 1) / 2 ≡ node = omega arith in
+    let low : (2 * node + 1) % 2 ≡ 1 = omega arith in
+    rw (half, low) (xor_odd (value_at vs node))
 
 -- there are as many values as nodes
 pub length_values : (n : NetworkValue) (sources : List Bool) → length sources ≡ source_bits n → length (values_of n sources) ≡ node_count n

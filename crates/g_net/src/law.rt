@@ -1,4 +1,4 @@
-ghost use Rattle.std.specs.Prelude.{◌≡◌, ◌<◌, ◌≤◌, ◌+◌, ◌++◌, ℕ, List, Bool, false, Some, length, slice_get, slice_index_or};
+ghost use Rattle.std.specs.Prelude.{◌≡◌, ◌<◌, ◌≤◌, ◌+◌, ◌*◌, ◌++◌, ℕ, List, Bool, false, not, Some, length, slice_get, slice_index_or};
 ghost use Rattle.lz_base.specs.Bits.{words_bits};
 ghost use Rattle.lz_base.specs.Ports.{FitPorts};
 ghost use Rattle.lz_base.specs.WordValue.{WordValue};
@@ -7,7 +7,7 @@ ghost use Rattle.g_net.specs.declared.network.Gate.{Gate};
 ghost use Rattle.g_net.specs.AsMachine.{network_machine, NetworkDoes};
 ghost use Rattle.g_net.specs.Grown.{Grows, KeepsValues, StandsAt};
 ghost use Rattle.g_net.specs.Network.{NetworkValue, IsWellFormed, node_count, source_bits, nodes_of};
-ghost use Rattle.g_net.specs.Run.{IsValuation, value_at, shown, next_state, first_state};
+ghost use Rattle.g_net.specs.Run.{IsValuation, value_at, literal_value, shown, next_state, first_state};
 ghost use Rattle.g_net.specs.Walk.{values_of, node_of};
 
 /// Law: a well-formed network has at most one valuation for the words at its inputs and the bits in its flip-flops.
@@ -28,6 +28,12 @@ pub fn sources_first()
     ensures constant { (n : NetworkValue) (sources : List Bool) → value_at (values_of n sources) 0 ≡ false }
     ensures source { (n : NetworkValue) (sources : List Bool) (k : ℕ) → k < length sources → value_at (values_of n sources) (k + 1) ≡ slice_index_or sources k false }
     ensures count { (n : NetworkValue) (sources : List Bool) → length sources ≡ source_bits n → length (values_of n sources) ≡ node_count n }
+{}
+
+/// Law: a node has two literals, of which the even one has its value and the odd one the inverse.
+pub fn two_literals()
+    ensures even { (values : List Bool) (node : ℕ) → literal_value values (2 * node) ≡ value_at values node }
+    ensures odd { (values : List Bool) (node : ℕ) → literal_value values (2 * node + 1) ≡ not (value_at values node) }
 {}
 
 /// Law: each gate of a well-formed network stands at its node, which is there.

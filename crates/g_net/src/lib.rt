@@ -12,9 +12,14 @@
 
 mod law;
 mod network;
+mod proposal;
 
 pub use law::{
     gates_stand, machine_lasts, machine_step, node_after_node, one_valuation, sources_first,
     values_stay,
 };
 pub use network::{Flip, Gate, Network};
+pub use proposal::{Leaves, Line, Proposal};
+
+#[cfg(test)]
+mod tests;

@@ -3,6 +3,7 @@ ghost use Rattle.std.specs.Option.{option_copied, option_map};
 ghost use Rattle.lz_base.specs.Names.{IsNew};
 ghost use Rattle.g_net.specs.Grown.{Grows, KeepsValues, StandsAt};
 ghost use Rattle.g_net.specs.Network as network;
+ghost use Rattle.g_net.specs.Walk.{node_of};
 ghost use Rattle.g_net.specs.Network.{HaveWidths, FlipsBelow, LiteralsBelow, ReadsBelow, ReadBackwards, IsWellFormed, names_of, first_gate, most_nodes, with_literals};
 
 use lz_base::{Items, Name, Num, OutOfMemory, Port};
@@ -165,6 +166,7 @@ impl Network {
         requires there { ReadsBelow (network.node_count self.old) gate }
         ensures ok { OnOk result (self.new ≡ record self.old { gates = self.old.gates ++ gate ∷ [] }) }
         ensures node { IfOk result (λ node. node ≡ network.node_count self.old) }
+        ensures place { IfOk result (λ node. node ≡ node_of self.new (length self.old.gates)) }
         ensures value { IfOk result (λ node. StandsAt self.new node gate) }
         ensures keeps { OnOk result (KeepsValues self.old self.new) }
         ensures few { OnOk result (network.node_count self.new ≤ most_nodes) }

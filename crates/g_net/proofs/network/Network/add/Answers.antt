@@ -1,6 +1,6 @@
 use Rattle.g_net.specs.Views.{network_value}
 use Rattle.g_net.proofs.Lines.{formed_gate, count_gate}
-use Rattle.g_net.proofs.Valuation.{added_stands, added_keeps}
+use Rattle.g_net.proofs.Valuation.{added_stands, added_place, added_keeps}
 use Rattle.g_net.proofs.network.Network.add.Goals as goal
 
 pub invariant_of-self-2 : goal.invariant_of-self-2
@@ -15,3 +15,6 @@ returns-clause-value c =
 
 pub returns-clause-keeps : goal.returns-clause-keeps
 returns-clause-keeps c = added_keeps (network_value c.self.inside) _ _ c.args.gate c.self.view_is c.in_ok-push.ensures.ok
+
+pub returns-clause-place : goal.returns-clause-place
+returns-clause-place c = added_place (network_value c.self.inside) _ _ c.args.gate _ c.self.view_is c.in_ok-push.ensures.ok c.node_count-node.ensures.count

@@ -1,5 +1,5 @@
 -- What one more line of a network keeps.
-use Rattle.std.proofs.Common.{◌≡◌, ◌≤◌, ◌<◌, ◌+◌, ◌*◌, ◌/◌, ℕ, List, [], ◌∷◌, ◌++◌, ◌≢◌, length, Option, Some, IsSome, slice_get, slice_set, get_or, zero, suc, arith, refl, sym, ap, ◌∙◌, add-zero, map}
+use Rattle.std.proofs.Common.{◌≡◌, ◌≤◌, ◌<◌, ◌+◌, ◌*◌, ◌/◌, ℕ, List, [], ◌∷◌, ◌++◌, ◌≢◌, length, Option, Some, IsSome, slice_get, slice_set, get_or, zero, suc, arith, refl, sym, ap, ◌∙◌, add-zero}
 use Rattle.std.proofs.lemmas.Grind.{common_steps}
 use Rattle.lz_base.specs.declared.name.Port.{Port}
 use Rattle.lz_base.specs.Names.{IsNew, AreDistinct}
@@ -7,7 +7,7 @@ use Rattle.g_net.specs.declared.network.Flip.{Flip}
 use Rattle.g_net.specs.declared.network.Gate.{Gate}
 use Rattle.g_net.specs.declared.network.Gate.TheVariants.{And, Xor, Carry}
 use Rattle.g_net.specs.declared.network.Output.{Output}
-use Rattle.g_net.specs.Network.{NetworkValue, nodes_of, gate_nodes, port_bits, source_bits, first_gate, node_count, LiteralsBelow, ReadsBelow, ReadBackwards, HaveWidths, HaveLiterals, OutputsBelow, HasClock, FlipsBelow, with_literals, names_of, IsWellFormed}
+use Rattle.g_net.specs.Network.{NetworkValue, nodes_of, gate_nodes, port_bits, first_gate, node_count, LiteralsBelow, ReadsBelow, ReadBackwards, HaveWidths, HaveLiterals, OutputsBelow, HasClock, FlipsBelow, with_literals, names_of, IsWellFormed}
 
 at_most_two : (g : Gate) → nodes_of g ≤ 2
 at_most_two (And a b) = omega arith

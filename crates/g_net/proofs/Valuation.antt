@@ -1,6 +1,6 @@
 -- The values that come out node after node: they stay where gates come behind, each gate's equation holds of them, and
 -- they are the one valuation of a network.
-use Rattle.std.proofs.Common.{◌≡◌, ◌==◌, ◌<◌, ◌≤◌, ◌/◌, ◌%◌, ℕ, ◌+◌, ◌*◌, zero, suc, List, [], ◌∷◌, ◌++◌, length, take, get_or, Bool, true, false, not, ◌&&◌, refl, sym, ap, subst, ◌∙◌, arith, below_more, add-one, append_assoc, append-nil, length-append, add-zero, Some, slice_get}
+use Rattle.std.proofs.Common.{◌≡◌, ◌==◌, ◌<◌, ◌≤◌, ◌/◌, ◌%◌, ℕ, ◌+◌, ◌*◌, zero, suc, List, [], ◌∷◌, ◌++◌, length, take, get_or, Bool, true, false, not, refl, sym, ap, subst, ◌∙◌, arith, below_more, add-one, append_assoc, append-nil, length-append, add-zero, Some, slice_get}
 use mathlib.Core.Bool.{xor}
 use Rattle.std.proofs.lemmas.List.{get_or-take, ext_get_or, get_or_append_left, get_or-append-add}
 use Rattle.std.proofs.Math.Seq.{take-append_seam}
@@ -12,7 +12,7 @@ use Rattle.g_net.specs.declared.network.Gate.{Gate}
 use Rattle.g_net.specs.declared.network.Gate.TheVariants.{And, Xor, Carry}
 use Rattle.g_net.specs.Grown.{Grows, KeepsValues, StandsAt}
 use Rattle.g_net.specs.Network.{NetworkValue, IsWellFormed, ReadsBelow, ReadBackwards, gate_nodes, nodes_of, first_gate, node_count, source_bits, port_bits}
-use Rattle.g_net.specs.Run.{IsValuation, GateHolds, GatesHold, value_at, literal_value, majority}
+use Rattle.g_net.specs.Run.{IsValuation, GateHolds, GatesHold, value_at, literal_value}
 use Rattle.g_net.proofs.Lines.{formed_gate}
 use Rattle.g_net.specs.Walk.{gate_values, all_values, values_of, node_of}
 

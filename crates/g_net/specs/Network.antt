@@ -1,5 +1,5 @@
 -- What a network is, and when it is well formed.
-use Rattle.std.specs.Prelude.{◌≡◌, ℕ, ◌+◌, ◌*◌, ◌/◌, ◌^◌, ◌<◌, ◌≤◌, List, [], ◌∷◌, ◌++◌, length, map, slice_index, zero, suc, Option, IsSome, ⊤}
+use Rattle.std.specs.Prelude.{ℕ, ◌+◌, ◌/◌, ◌^◌, ◌<◌, ◌≤◌, List, [], ◌∷◌, ◌++◌, length, map, slice_index, zero, suc, Option, IsSome, ⊤}
 use Rattle.std.specs.Option.{option_to_list}
 use Rattle.lz_base.specs.declared.name.Port.{Port}
 use Rattle.lz_base.specs.Names.{AreDistinct}

@@ -1,4 +1,4 @@
-ghost use Rattle.std.specs.Prelude.{◌≡◌, ◌++◌, [], ◌∷◌, IfOk, OnOk, OnErr};
+ghost use Rattle.std.specs.Prelude.{◌≡◌, ◌<◌, ◌≤◌, ◌++◌, [], ◌∷◌, length, IsOk, IfOk, OnOk, OnErr};
 
 use lz_base::{Items, Num, OutOfMemory};
 use smallvec::SmallVec;
@@ -29,20 +29,24 @@ impl Leaves {
         }
     }
 
-    /// The leaves of a slice.
+    /// The leaves of a slice. Up to six need no memory.
     pub fn from_slice(alloc: Global, nodes: &[Num]) -> Result<Leaves, OutOfMemory>
-        ensures { IfOk result (λ l. l ≡ nodes.now) }
+        ensures leaves { IfOk result (λ l. l ≡ nodes.now) }
+        ensures in_place { length nodes.now ≤ 6 → IsOk result }
     {
         Ok(Leaves {
             nodes: SmallVec::from_slice(alloc, nodes)?,
         })
     }
 
-    /// Appends a leaf. Where it answers `OutOfMemory`, the leaves are as before.
+    /// Appends a leaf. The first six need no memory. Where it answers `OutOfMemory`, the leaves are as before.
     pub fn push(&mut self, node: Num) -> Result<(), OutOfMemory>
         ensures ok { OnOk result (self.new ≡ self.old ++ node ∷ []) }
+        ensures in_place { length self.old < 6 → IsOk result }
         ensures err { OnErr result (self.new ≡ self.old) }
     {
+        // Six fit in any case.
+        let _spilled = self.nodes.spilled();
         self.nodes.push(node)?;
         Ok(())
     }

@@ -1,5 +1,4 @@
-use Rattle.std.proofs.Common.{◌≡◌, ap}
-use Rattle.g_net.specs.Network.{node_count, LiteralsBelow}
+use Rattle.g_net.specs.Network.{node_count}
 use Rattle.g_net.specs.Views.{network_value}
 use Rattle.g_net.proofs.Lines.{some_literals, few_literals, literals_there}
 use Rattle.g_net.proofs.network.Network.output_literals.Goals as goal

@@ -1,4 +1,4 @@
-ghost use Rattle.std.specs.Prelude.{◌≡◌, ◌<◌, ◌≤◌, ◌/◌, ◌++◌, [], ◌∷◌, length, slice_get, Some, IsSome, IfOk, OnOk, OnErr};
+ghost use Rattle.std.specs.Prelude.{◌≡◌, ◌<◌, ◌≤◌, ◌+◌, ◌/◌, ◌++◌, [], ◌∷◌, length, slice_get, Some, IsSome, IfOk, OnOk, OnErr};
 ghost use Rattle.std.specs.Option.{option_copied, option_map};
 ghost use Rattle.lz_base.specs.Names.{IsNew};
 ghost use Rattle.g_net.specs.Grown.{Grows, KeepsValues, StandsAt};
@@ -169,6 +169,7 @@ impl Network {
         ensures place { IfOk result (λ node. node ≡ node_of self.new (length self.old.gates)) }
         ensures value { IfOk result (λ node. StandsAt self.new node gate) }
         ensures keeps { OnOk result (KeepsValues self.old self.new) }
+        ensures count { IfOk result (λ node. network.node_count self.new ≡ node + network.nodes_of gate) }
         ensures few { OnOk result (network.node_count self.new ≤ most_nodes) }
         ensures err { OnErr result (self.new ≡ self.old) }
     {

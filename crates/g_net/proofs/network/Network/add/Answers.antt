@@ -1,3 +1,4 @@
+use Rattle.std.proofs.Common.{refl, sym}
 use Rattle.g_net.specs.Views.{network_value}
 use Rattle.g_net.proofs.Lines.{formed_gate, count_gate}
 use Rattle.g_net.proofs.Valuation.{added_stands, added_place, added_keeps}
@@ -18,3 +19,6 @@ returns-clause-keeps c = added_keeps (network_value c.self.inside) _ _ c.args.ga
 
 pub returns-clause-place : goal.returns-clause-place
 returns-clause-place c = added_place (network_value c.self.inside) _ _ c.args.gate _ c.self.view_is c.in_ok-push.ensures.ok c.node_count-node.ensures.count
+
+pub returns-clause-count : goal.returns-clause-count
+returns-clause-count c = sym (count_gate (network_value c.self.inside) _ _ c.args.gate _ _ c.self.view_is c.in_ok-push.ensures.ok c.node_count-node.ensures.count refl)

@@ -1,0 +1,6 @@
+pub mod Network
+pub mod Walk
+pub mod Run
+pub mod AsMachine
+pub mod Grown
+pub mod Views

@@ -1,0 +1,6 @@
+pub mod Bits
+pub mod Literals
+pub mod Known
+pub mod AndRules
+pub mod XorRules
+pub mod DeepRight

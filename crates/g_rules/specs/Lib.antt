@@ -1,0 +1,5 @@
+pub mod Literals
+pub mod Shapes
+pub mod Keeps
+pub mod PlainRules
+pub mod DeepRules

@@ -1,11 +1,13 @@
 //! The rules by which gates are rewritten before they are built.
 #![tactic(auto)]
 
+mod book;
 mod deep;
 mod literal;
 mod plain;
 mod shapes;
 
+pub use book::{DeepRule, GateRule, RuleBook};
 pub use deep::{and_absorb, and_subsume, xor_cancel};
 pub use literal::{inverse, inverted};
 pub use plain::{

@@ -30,7 +30,7 @@ record Below (nodes : List ℕ) (Holds : List Bool → Type 0) (a b : ℕ) (gate
   second : is_known nodes (b / 2) ≡ true
   operands : GateKnown nodes gate
   zero_is : (values : List Bool) → Holds values → HasZero values
-  gate_is : (values : List Bool) → Holds values → HasGate values b gate
+  gate_is : (values : List Bool) → Holds values → HasGate values (b / 2) gate
 
 -- the first that rewrites is right where each is
 or_else_keeps : (nodes : List ℕ) (Holds : List Bool → Type 0) (s : Shape) (p q : Rewrite) → Keeps nodes Holds s p → Keeps nodes Holds s q → Keeps nodes Holds s (or_else p q)
@@ -71,10 +71,10 @@ turned_xor_gate nodes Holds a b x y w = record {
 }
 
 -- a literal that is no inverse has the value of the gate at its node
-plain_gate : (values : List Bool) (b x y : ℕ) → is_inverse b ≡ false → HasGate values b (Some (shape.And x y)) → literal_value values b ≡ (literal_value values x && literal_value values y)
+plain_gate : (values : List Bool) (b x y : ℕ) → is_inverse b ≡ false → HasGate values (b / 2) (Some (shape.And x y)) → literal_value values b ≡ (literal_value values x && literal_value values y)
 plain_gate values b x y e h = ap (λ s. xor s (value_at values (b / 2))) e ∙ false_xor (value_at values (b / 2)) ∙ h
 
-inverse_gate : (values : List Bool) (b x y : ℕ) → is_inverse b ≡ true → HasGate values b (Some (shape.And x y)) → literal_value values b ≡ not (literal_value values x && literal_value values y)
+inverse_gate : (values : List Bool) (b x y : ℕ) → is_inverse b ≡ true → HasGate values (b / 2) (Some (shape.And x y)) → literal_value values b ≡ not (literal_value values x && literal_value values y)
 inverse_gate values b x y e h = ap (λ s. xor s (value_at values (b / 2))) e ∙ true_xor (value_at values (b / 2)) ∙ ap not h
 
 -- `and` of x and of a gate with x
@@ -177,7 +177,7 @@ known_within xs ys (Some (shape.And x y)) f k = (f (x / 2) k.0, f (y / 2) k.1)
 known_within xs ys (Some (shape.Xor x y)) f k = (f (x / 2) k.0, f (y / 2) k.1)
 
 -- What is known where the second literal of a shape is looked at, and where the first is.
-right_below : (s : Shape) (left right : Option Shape) (a b : ℕ) → shape_nodes s ≡ both a b → ((values : List Bool) → HasGates (record { shape = s; left = left; right = right }) values → HasGate values b right)
+right_below : (s : Shape) (left right : Option Shape) (a b : ℕ) → shape_nodes s ≡ both a b → ((values : List Bool) → HasGates (record { shape = s; left = left; right = right }) values → HasGate values (b / 2) right)
     → Below (deep_nodes (record { shape = s; left = left; right = right })) (HasGates (record { shape = s; left = left; right = right })) a b right
 right_below s left right a b e has = record {
   first = known_left (shape_nodes s ++ gate_nodes left) (gate_nodes right) (a / 2) (known_left (shape_nodes s) (gate_nodes left) (a / 2) (rw e (first_known a b)));
@@ -187,7 +187,7 @@ right_below s left right a b e has = record {
   gate_is = has;
 }
 
-left_below : (s : Shape) (left right : Option Shape) (a b : ℕ) → shape_nodes s ≡ both a b → ((values : List Bool) → HasGates (record { shape = s; left = left; right = right }) values → HasGate values a left)
+left_below : (s : Shape) (left right : Option Shape) (a b : ℕ) → shape_nodes s ≡ both a b → ((values : List Bool) → HasGates (record { shape = s; left = left; right = right }) values → HasGate values (a / 2) left)
     → Below (deep_nodes (record { shape = s; left = left; right = right })) (HasGates (record { shape = s; left = left; right = right })) b a left
 left_below s left right a b e has = record {
   first = known_left (shape_nodes s ++ gate_nodes left) (gate_nodes right) (b / 2) (known_left (shape_nodes s) (gate_nodes left) (b / 2) (rw e (second_known a b)));

@@ -4,3 +4,4 @@ pub mod Known
 pub mod AndRules
 pub mod XorRules
 pub mod DeepRight
+pub mod Applied

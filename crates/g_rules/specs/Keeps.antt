@@ -43,22 +43,24 @@ HasZero values = value_at values 0 ≡ false
 abbrev pub KeepsValue : Shape → Rewrite → Type 0
 KeepsValue s r = Keeps (shape_nodes s) HasZero s r
 
-abbrev pub first_literal : Shape → ℕ
-first_literal (shape.And a b) = a
-first_literal (shape.Xor a b) = a
+-- the node of the first literal
+abbrev pub first_node : Shape → ℕ
+first_node (shape.And a b) = node_of a
+first_node (shape.Xor a b) = node_of a
 
-abbrev pub second_literal : Shape → ℕ
-second_literal (shape.And a b) = b
-second_literal (shape.Xor a b) = b
+-- the node of the second literal
+abbrev pub second_node : Shape → ℕ
+second_node (shape.And a b) = node_of b
+second_node (shape.Xor a b) = node_of b
 
--- where there is a gate at the node of the literal, the node has the gate's value
+-- where there is a gate at the node, the node has the gate's value
 abbrev pub HasGate : List Bool → ℕ → Option Shape → Type 0
-HasGate values literal None = ⊤
-HasGate values literal (Some gate) = value_at values (node_of literal) ≡ shape_value values gate
+HasGate values node None = ⊤
+HasGate values node (Some gate) = value_at values node ≡ shape_value values gate
 
 -- node 0 is the constant 0, and the nodes of the shape have the values of the gates at them
 abbrev pub HasGates : Deep → List Bool → Type 0
-HasGates d values = HasZero values × HasGate values (first_literal d.shape) d.left × HasGate values (second_literal d.shape) d.right
+HasGates d values = HasZero values × HasGate values (first_node d.shape) d.left × HasGate values (second_node d.shape) d.right
 
 -- What a rule makes of a shape is right for all values of the nodes where those of the shape's nodes are the values of
 -- the gates at them, and speaks of the nodes alone that stand in the shape or in these gates.

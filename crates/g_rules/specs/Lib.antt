@@ -3,3 +3,4 @@ pub mod Shapes
 pub mod Keeps
 pub mod PlainRules
 pub mod DeepRules
+pub mod Applying

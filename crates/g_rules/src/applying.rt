@@ -107,7 +107,7 @@ fn apply_deep<G: Gates>(rules: &[DeepRule], gates: &G, from: Shape, inverted: bo
 /// the gates below, for the shape that the rule before it left. The gates are looked up for each of these anew. A
 /// literal is final. Whatever the rules are, it has the value of the shape.
 pub fn apply<G: Gates>(book: &RuleBook, gates: &G, shape: Shape) -> Outcome
-    ensures order { (left : Outcome) × Leaves (λ rule s r. ⟦<dyn Fn(Shape) -> Rewrite as Fn(Shape) -> Rewrite>⟧.post rule.f s r) book.now.plain (Outcome.Gate shape false) left × Leaves (λ rule s r. ⟦<dyn Fn(Deep) -> Rewrite as Fn(Deep) -> Rewrite>⟧.post rule.f (deep_of (G.gate_at gates.now) s) r) book.now.deep left result }
+    ensures order { (left : Outcome) × Leaves (λ rule s r. ⟦<Box<dyn Fn(Shape) -> Rewrite> as Fn(Shape) -> Rewrite>⟧.post rule.f s r) book.now.plain (Outcome.Gate shape false) left × Leaves (λ rule s r. ⟦<Box<dyn Fn(Deep) -> Rewrite> as Fn(Deep) -> Rewrite>⟧.post rule.f (deep_of (G.gate_at gates.now) s) r) book.now.deep left result }
     ensures right { IsOutcome (G.gate_at gates.now) shape result }
 {
     match apply_plain(book.plain.as_slice(), shape) {

@@ -45,7 +45,7 @@ pub and_constant_keeps : (s : Shape) (r : Rewrite) → r ≡ and_constant_of s �
 and_constant_keeps (shape.And a b) r e = rw e (by_test (a == 0 || b == 0) (KeepsValue (shape.And a b)) _ _
     (λ t. elim (either (a == 0) (b == 0) t) [ inl f ↦ zero_first a b (tested a 0 f) | inr f ↦ zero_second a b (tested b 0 f) ])
     (λ t. by_test (a == 1) (KeepsValue (shape.And a b)) _ _ (λ u. one_first a b (tested a 1 u))
-      (λ u. by_test (b == 1) (KeepsValue (shape.And a b)) _ _ (λ v. one_second a b (tested b 1 v)) (λ v. unchanged (both a b) HasZero (shape.And a b)))))
+    (λ u. by_test (b == 1) (KeepsValue (shape.And a b)) _ _ (λ v. one_second a b (tested b 1 v)) (λ v. unchanged (both a b) HasZero (shape.And a b)))))
 and_constant_keeps (shape.Xor a b) r e = rw e (unchanged (both a b) HasZero (shape.Xor a b))
 
 equal_and : (a b : ℕ) → a ≡ b → KeepsValue (shape.And a b) (Literal a)

@@ -36,8 +36,9 @@ NodesBelow count (n ∷ nodes) = (n < count) × NodesBelow count nodes
 known_below : (count : ℕ) (nodes : List ℕ) (m : ℕ) → 0 < count → NodesBelow count nodes → is_known nodes m ≡ true → m < count
 known_below count [] m some below e = let zero_is : m ≡ 0 = tested m 0 e in omega arith
 known_below count (n ∷ nodes) m some below e = elim (either (m == n) (is_known nodes m) e) [
-    inl f ↦ (let same : m ≡ n = tested m n f in omega (arith, below.0))
-    | inr f ↦ known_below count nodes m some below.1 f ]
+  | inl f ↦ (let same : m ≡ n = tested m n f in omega (arith, below.0))
+  | inr f ↦ known_below count nodes m some below.1 f
+]
 
 both_true : (a b : Bool) → (a && b) ≡ true → (a ≡ true) × (b ≡ true)
 both_true true b e = (refl, e)
@@ -76,8 +77,8 @@ next_outcome : (gates : ℕ → Option Shape) (nodes : List ℕ) (Holds : List B
 next_outcome gates nodes Holds first s invert r o k implied there = record {
   value = λ values h. outcome_was values s invert r ∙ ap (xor invert) (k.value values (implied values h)) ∙ o.value values h;
   within = λ count some gates_in shape_in.
-    let now = o.within count some gates_in shape_in in
-    outcome_within count s invert r now (literals_within count nodes (rewrite_literals r) some (there count gates_in now) k.known);
+      let now = o.within count some gates_in shape_in in
+      outcome_within count s invert r now (literals_within count nodes (rewrite_literals r) some (there count gates_in now) k.known);
 }
 
 pub plain_next : (gates : ℕ → Option Shape) (first s : Shape) (invert : Bool) (r : Rewrite) → IsOutcome gates first (outcome.Gate s invert) → KeepsValue s r → IsOutcome gates first (outcome_of s invert r)
@@ -98,9 +99,9 @@ deep_next gates first s invert r d o looked kept =
     next_outcome gates (deep_nodes (deep_of gates s)) (HasGates (deep_of gates s)) first s invert r o k
     (λ values h. (h.0, h.1 (first_node s), h.1 (second_node s)))
     (λ count gates_in shape_in. both_within count (shape_nodes s ++ gate_nodes (gates (first_node s))) (gate_nodes (gates (second_node s)))
-      (both_within count (shape_nodes s) (gate_nodes (gates (first_node s))) (nodes_within count (shape_literals s) shape_in)
-        (nodes_within count (gate_literals (gates (first_node s))) (gates_in (first_node s) (first_within count s shape_in))))
-      (nodes_within count (gate_literals (gates (second_node s))) (gates_in (second_node s) (second_within count s shape_in))))
+    (both_within count (shape_nodes s) (gate_nodes (gates (first_node s))) (nodes_within count (shape_literals s) shape_in)
+    (nodes_within count (gate_literals (gates (first_node s))) (gates_in (first_node s) (first_within count s shape_in))))
+    (nodes_within count (gate_literals (gates (second_node s))) (gates_in (second_node s) (second_within count s shape_in))))
 
 -- a shape itself
 pub outcome_none : (gates : ℕ → Option Shape) (s : Shape) → IsOutcome gates s (outcome.Gate s false)

@@ -81,16 +81,16 @@ inverse_gate values b x y e h = ap (λ s. xor s (value_at values (b / 2))) e ∙
 same_absorbed : (nodes : List ℕ) (Holds : List Bool → Type 0) (a b x y : ℕ) → Below nodes Holds a b (Some (shape.And x y)) → is_inverse b ≡ false → a ≡ x → Keeps nodes Holds (shape.And a b) (Literal b)
 same_absorbed nodes Holds a b x y w e same = record {
   value = λ values h.
-    let gate = plain_gate values b x y e (w.gate_is values h) in
-    gate ∙ sym (ap (λ k. literal_value values k && literal_value values b) same ∙ ap (λ t. literal_value values x && t) gate ∙ absorbs (literal_value values x) (literal_value values y));
+      let gate = plain_gate values b x y e (w.gate_is values h) in
+      gate ∙ sym (ap (λ k. literal_value values k && literal_value values b) same ∙ ap (λ t. literal_value values x && t) gate ∙ absorbs (literal_value values x) (literal_value values y));
   known = one_known nodes b w.second;
 }
 
 opposite_absorbed : (nodes : List ℕ) (Holds : List Bool → Type 0) (a b x y : ℕ) → Below nodes Holds a b (Some (shape.And x y)) → is_inverse b ≡ false → a ≡ inverse_of x → Keeps nodes Holds (shape.And a b) (Literal 0)
 opposite_absorbed nodes Holds a b x y w e same = record {
   value = λ values h.
-    let gate = plain_gate values b x y e (w.gate_is values h) in
-    zero_value values (w.zero_is values h) ∙ sym (ap (λ k. literal_value values k && literal_value values b) same ∙ ap (λ t. t && literal_value values b) (inverse_value values x)
+      let gate = plain_gate values b x y e (w.gate_is values h) in
+      zero_value values (w.zero_is values h) ∙ sym (ap (λ k. literal_value values k && literal_value values b) same ∙ ap (λ t. t && literal_value values b) (inverse_value values x)
       ∙ ap (λ t. not (literal_value values x) && t) gate ∙ excludes (literal_value values x) (literal_value values y));
   known = one_known nodes 0 (constant_known nodes);
 }
@@ -101,22 +101,24 @@ absorbed_keeps nodes Holds a b (Some (shape.Xor x y)) w = unchanged nodes Holds 
 absorbed_keeps nodes Holds a b (Some (shape.And x y)) w =
     by_test (is_inverse b) (Keeps nodes Holds (shape.And a b)) _ _ (λ t. unchanged nodes Holds (shape.And a b))
     (λ t. by_test (a == x || a == y) (Keeps nodes Holds (shape.And a b)) _ _
-      (λ u. elim (either (a == x) (a == y) u) [
-        inl f ↦ same_absorbed nodes Holds a b x y w t (tested a x f)
-        | inr f ↦ same_absorbed nodes Holds a b y x (turned_gate nodes Holds a b x y w) t (tested a y f) ])
-      (λ u. by_test (a == inverse_of x || a == inverse_of y) (Keeps nodes Holds (shape.And a b)) _ _
-        (λ v. elim (either (a == inverse_of x) (a == inverse_of y) v) [
-          inl f ↦ opposite_absorbed nodes Holds a b x y w t (tested a (inverse_of x) f)
-          | inr f ↦ opposite_absorbed nodes Holds a b y x (turned_gate nodes Holds a b x y w) t (tested a (inverse_of y) f) ])
-        (λ v. unchanged nodes Holds (shape.And a b))))
+    (λ u. elim (either (a == x) (a == y) u) [
+      | inl f ↦ same_absorbed nodes Holds a b x y w t (tested a x f)
+      | inr f ↦ same_absorbed nodes Holds a b y x (turned_gate nodes Holds a b x y w) t (tested a y f)
+    ])
+    (λ u. by_test (a == inverse_of x || a == inverse_of y) (Keeps nodes Holds (shape.And a b)) _ _
+    (λ v. elim (either (a == inverse_of x) (a == inverse_of y) v) [
+      | inl f ↦ opposite_absorbed nodes Holds a b x y w t (tested a (inverse_of x) f)
+      | inr f ↦ opposite_absorbed nodes Holds a b y x (turned_gate nodes Holds a b x y w) t (tested a (inverse_of y) f)
+    ])
+    (λ v. unchanged nodes Holds (shape.And a b))))
 
 -- `and` of the inverse of x and of the inverse of a gate with x
 opposite_subsumed : (nodes : List ℕ) (Holds : List Bool → Type 0) (a b x y : ℕ) → Below nodes Holds a b (Some (shape.And x y)) → is_inverse b ≡ true → a ≡ inverse_of x → Keeps nodes Holds (shape.And a b) (Literal a)
 opposite_subsumed nodes Holds a b x y w e same = record {
   value = λ values h.
-    let gate = inverse_gate values b x y e (w.gate_is values h) in
-    let is = ap (literal_value values) same ∙ inverse_value values x in
-    is ∙ sym (ap (λ t. t && literal_value values b) is ∙ ap (λ t. not (literal_value values x) && t) gate ∙ subsumes (literal_value values x) (literal_value values y));
+      let gate = inverse_gate values b x y e (w.gate_is values h) in
+      let is = ap (literal_value values) same ∙ inverse_value values x in
+      is ∙ sym (ap (λ t. t && literal_value values b) is ∙ ap (λ t. not (literal_value values x) && t) gate ∙ subsumes (literal_value values x) (literal_value values y));
   known = one_known nodes a w.first;
 }
 
@@ -124,9 +126,9 @@ same_subsumed : (nodes : List ℕ) (Holds : List Bool → Type 0) (a b x y : ℕ
     → Keeps nodes Holds (shape.And a b) (rewrite.And a (inverse_of y))
 same_subsumed nodes Holds a b x y w e same = record {
   value = λ values h.
-    let gate = inverse_gate values b x y e (w.gate_is values h) in
-    ap (λ t. literal_value values a && t) (inverse_value values y) ∙ ap (λ k. literal_value values k && not (literal_value values y)) same
-    ∙ sym (ap (λ k. literal_value values k && literal_value values b) same ∙ ap (λ t. literal_value values x && t) gate ∙ strengthens (literal_value values x) (literal_value values y));
+      let gate = inverse_gate values b x y e (w.gate_is values h) in
+      ap (λ t. literal_value values a && t) (inverse_value values y) ∙ ap (λ k. literal_value values k && not (literal_value values y)) same
+      ∙ sym (ap (λ k. literal_value values k && literal_value values b) same ∙ ap (λ t. literal_value values x && t) gate ∙ strengthens (literal_value values x) (literal_value values y));
   known = two_known nodes a (inverse_of y) w.first (same_known nodes (inverse_of y) y (node_of_inverse y) w.operands.1);
 }
 
@@ -136,12 +138,13 @@ subsumed_keeps nodes Holds a b (Some (shape.Xor x y)) w = unchanged nodes Holds 
 subsumed_keeps nodes Holds a b (Some (shape.And x y)) w =
     by_test (is_inverse b) (Keeps nodes Holds (shape.And a b)) _ _
     (λ t. by_test (a == inverse_of x || a == inverse_of y) (Keeps nodes Holds (shape.And a b)) _ _
-      (λ u. elim (either (a == inverse_of x) (a == inverse_of y) u) [
-        inl f ↦ opposite_subsumed nodes Holds a b x y w t (tested a (inverse_of x) f)
-        | inr f ↦ opposite_subsumed nodes Holds a b y x (turned_gate nodes Holds a b x y w) t (tested a (inverse_of y) f) ])
-      (λ u. by_test (a == x) (Keeps nodes Holds (shape.And a b)) _ _ (λ v. same_subsumed nodes Holds a b x y w t (tested a x v))
-        (λ v. by_test (a == y) (Keeps nodes Holds (shape.And a b)) _ _ (λ f. same_subsumed nodes Holds a b y x (turned_gate nodes Holds a b x y w) t (tested a y f))
-          (λ f. unchanged nodes Holds (shape.And a b)))))
+    (λ u. elim (either (a == inverse_of x) (a == inverse_of y) u) [
+      | inl f ↦ opposite_subsumed nodes Holds a b x y w t (tested a (inverse_of x) f)
+      | inr f ↦ opposite_subsumed nodes Holds a b y x (turned_gate nodes Holds a b x y w) t (tested a (inverse_of y) f)
+    ])
+    (λ u. by_test (a == x) (Keeps nodes Holds (shape.And a b)) _ _ (λ v. same_subsumed nodes Holds a b x y w t (tested a x v))
+    (λ v. by_test (a == y) (Keeps nodes Holds (shape.And a b)) _ _ (λ f. same_subsumed nodes Holds a b y x (turned_gate nodes Holds a b x y w) t (tested a y f))
+    (λ f. unchanged nodes Holds (shape.And a b)))))
     (λ t. unchanged nodes Holds (shape.And a b))
 
 -- `xor` of a and of a gate with the node of a
@@ -149,9 +152,9 @@ node_cancelled : (nodes : List ℕ) (Holds : List Bool → Type 0) (a b x y : �
     → Keeps nodes Holds (shape.Xor a b) (Literal (inverted_of y (xor (is_inverse b) (not (a == x)))))
 node_cancelled nodes Holds a b x y w same = record {
   value = λ values h.
-    inverted_value values y (xor (is_inverse b) (not (a == x)))
-    ∙ node_cancels (is_inverse b) (not (a == x)) (literal_value values x) (literal_value values y)
-    ∙ sym (ap (λ t. xor t (literal_value values b)) (same_node values a x same)
+      inverted_value values y (xor (is_inverse b) (not (a == x)))
+      ∙ node_cancels (is_inverse b) (not (a == x)) (literal_value values x) (literal_value values y)
+      ∙ sym (ap (λ t. xor t (literal_value values b)) (same_node values a x same)
       ∙ ap (λ t. xor (xor (not (a == x)) (literal_value values x)) (xor (is_inverse b) t)) (w.gate_is values h));
   known = one_known nodes _ (same_known nodes _ y (node_of_inverted y (xor (is_inverse b) (not (a == x)))) w.operands.1);
 }
@@ -162,8 +165,8 @@ cancelled_keeps nodes Holds a b (Some (shape.And x y)) w = unchanged nodes Holds
 cancelled_keeps nodes Holds a b (Some (shape.Xor x y)) w =
     by_test (node_of a == node_of x) (Keeps nodes Holds (shape.Xor a b)) _ _ (λ t. node_cancelled nodes Holds a b x y w (tested (a / 2) (x / 2) t))
     (λ t. by_test (node_of a == node_of y) (Keeps nodes Holds (shape.Xor a b)) _ _
-      (λ u. node_cancelled nodes Holds a b y x (turned_xor_gate nodes Holds a b x y w) (tested (a / 2) (y / 2) u))
-      (λ u. unchanged nodes Holds (shape.Xor a b)))
+    (λ u. node_cancelled nodes Holds a b y x (turned_xor_gate nodes Holds a b x y w) (tested (a / 2) (y / 2) u))
+    (λ u. unchanged nodes Holds (shape.Xor a b)))
 
 -- the operands of a gate are among its nodes
 gate_known : (gate : Option Shape) → GateKnown (gate_nodes gate) gate
@@ -193,7 +196,7 @@ left_below s left right a b e has = record {
   first = known_left (shape_nodes s ++ gate_nodes left) (gate_nodes right) (b / 2) (known_left (shape_nodes s) (gate_nodes left) (b / 2) (rw e (second_known a b)));
   second = known_left (shape_nodes s ++ gate_nodes left) (gate_nodes right) (a / 2) (known_left (shape_nodes s) (gate_nodes left) (a / 2) (rw e (first_known a b)));
   operands = known_within (gate_nodes left) _ left
-    (λ m k. known_left (shape_nodes s ++ gate_nodes left) (gate_nodes right) m (known_right (shape_nodes s) (gate_nodes left) m k)) (gate_known left);
+      (λ m k. known_left (shape_nodes s ++ gate_nodes left) (gate_nodes right) m (known_right (shape_nodes s) (gate_nodes left) m k)) (gate_known left);
   zero_is = λ values h. h.0;
   gate_is = has;
 }

@@ -42,8 +42,8 @@ pub xor_constant_keeps : (s : Shape) (r : Rewrite) → r ≡ xor_constant_of s �
 xor_constant_keeps (shape.And a b) r e = rw e (unchanged (both a b) HasZero (shape.And a b))
 xor_constant_keeps (shape.Xor a b) r e = rw e (by_test (a == 0) (KeepsValue (shape.Xor a b)) _ _ (λ t. zero_first a b (tested a 0 t))
     (λ t. by_test (b == 0) (KeepsValue (shape.Xor a b)) _ _ (λ u. zero_second a b (tested b 0 u))
-      (λ u. by_test (a == 1) (KeepsValue (shape.Xor a b)) _ _ (λ v. one_first a b (tested a 1 v))
-        (λ v. by_test (b == 1) (KeepsValue (shape.Xor a b)) _ _ (λ w. one_second a b (tested b 1 w)) (λ w. unchanged (both a b) HasZero (shape.Xor a b))))))
+    (λ u. by_test (a == 1) (KeepsValue (shape.Xor a b)) _ _ (λ v. one_first a b (tested a 1 v))
+    (λ v. by_test (b == 1) (KeepsValue (shape.Xor a b)) _ _ (λ w. one_second a b (tested b 1 w)) (λ w. unchanged (both a b) HasZero (shape.Xor a b))))))
 
 equal_xor : (a b : ℕ) → a ≡ b → KeepsValue (shape.Xor a b) (Literal 0)
 equal_xor a b e = record {

@@ -10,7 +10,11 @@ use lz_base::Num;
 fn either(first: Rewrite, second: Rewrite) -> Rewrite
     ensures { result ≡ or_else first second }
 {
-    if first == Rewrite::Keep { second } else { first }
+    if first == Rewrite::Keep {
+        second
+    } else {
+        first
+    }
 }
 
 // An `and` of a and of b, where the node of b is this gate.

@@ -9,5 +9,5 @@ abbrev pub invariant-loop-rule : goal.invariant-loop-rule
 invariant-loop-rule g l = record {
   right : (first : Shape) → IsOutcome (g.G.Gates.gate_at l.gates) first (outcome.Gate l.fn.from l.fn.inverted) → IsOutcome (g.G.Gates.gate_at l.gates) first (outcome.Gate l.shape l.invert);
   order : (last : Outcome) → Leaves (λ rule s r. (goal.Fn-dyn g).post (rule.f.vtable, rule.f.value) (deep_of (g.G.Gates.gate_at l.gates) s, tt) r) (drop l.rule-index l.rules) (outcome.Gate l.shape l.invert) last
-      → Leaves (λ rule s r. (goal.Fn-dyn g).post (rule.f.vtable, rule.f.value) (deep_of (g.G.Gates.gate_at l.gates) s, tt) r) l.rules (outcome.Gate l.fn.from l.fn.inverted) last
+      → Leaves (λ rule s r. (goal.Fn-dyn g).post (rule.f.vtable, rule.f.value) (deep_of (g.G.Gates.gate_at l.gates) s, tt) r) l.rules (outcome.Gate l.fn.from l.fn.inverted) last;
 }

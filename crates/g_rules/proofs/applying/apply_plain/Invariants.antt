@@ -8,5 +8,5 @@ abbrev pub invariant-loop-rule : goal.invariant-loop-rule
 invariant-loop-rule g l = record {
   right : IsOutcome (λ node. None) l.fn.first (outcome.Gate l.shape l.invert);
   order : (last : Outcome) → Leaves (λ rule s r. (goal.Fn-dyn g).post (rule.f.vtable, rule.f.value) (s, tt) r) (drop l.rule-index l.rules) (outcome.Gate l.shape l.invert) last
-      → Leaves (λ rule s r. (goal.Fn-dyn g).post (rule.f.vtable, rule.f.value) (s, tt) r) l.rules (outcome.Gate l.fn.first false) last
+      → Leaves (λ rule s r. (goal.Fn-dyn g).post (rule.f.vtable, rule.f.value) (s, tt) r) l.rules (outcome.Gate l.fn.first false) last;
 }

@@ -1,7 +1,6 @@
 -- The plain rules for an `and` keep its value.
-use Rattle.std.proofs.Common.{◌≡◌, ◌==◌, ℕ, ◌/◌, List, [], ◌∷◌, Bool, true, false, nat_lt, ◌&&◌, ◌||◌, refl, sym, ap, ◌∙◌, inl, inr}
+use Rattle.std.proofs.Common.{◌≡◌, ◌==◌, ℕ, List, Bool, nat_lt, ◌&&◌, ◌||◌, refl, sym, ap, ◌∙◌, inl, inr}
 use Rattle.std.proofs.Math.Bool.{and_comm}
-use mathlib.Core.Bool.{not}
 use Rattle.g_rules.specs.declared.shapes.Rewrite.{Rewrite}
 use Rattle.g_rules.specs.declared.shapes.Rewrite.TheVariants.{Keep, Literal}
 use Rattle.g_rules.specs.declared.shapes.Rewrite.TheVariants as rewrite

@@ -1,5 +1,5 @@
 -- Rules one after another leave a shape's value, and are applied in their order.
-use Rattle.std.proofs.Common.{◌≡◌, ◌==◌, ℕ, ◌+◌, ◌<◌, ◌/◌, List, [], ◌∷◌, ◌++◌, length, get_or, take, drop, map, Bool, true, false, ◌&&◌, ◌||◌, Option, None, Some, refl, sym, ap, ◌∙◌, inl, inr, subst, arith}
+use Rattle.std.proofs.Common.{◌≡◌, ◌==◌, ℕ, ◌+◌, ◌<◌, ◌/◌, List, [], ◌∷◌, ◌++◌, length, get_or, drop, map, Bool, true, false, ◌&&◌, Option, None, refl, sym, ap, ◌∙◌, inl, inr, subst, arith}
 use Rattle.std.specs.Prelude.{⊤}
 use Rattle.std.proofs.lemmas.List.{drop_more}
 use mathlib.Core.Bool.{xor}
@@ -11,9 +11,9 @@ use Rattle.g_rules.specs.declared.shapes.Rewrite.TheVariants as rewrite
 use Rattle.g_rules.specs.declared.shapes.Shape.{Shape}
 use Rattle.g_rules.specs.declared.shapes.Shape.TheVariants as shape
 use Rattle.g_rules.specs.Applying.{outcome_of, Leaves, deep_of, outcome_value, outcome_literals, HasEveryGate, AreWithin, GatesWithin, IsOutcome}
-use Rattle.g_rules.specs.Keeps.{Keeps, KeepsValue, KeepsDeepValue, HasZero, HasGate, HasGates, is_known, are_known, first_node, second_node}
-use Rattle.g_rules.specs.Literals.{node_of, inverted_of, literal_value}
-use Rattle.g_rules.specs.Shapes.{shape_value, rewrite_value, shape_literals, gate_literals, rewrite_literals, shape_nodes, gate_nodes, deep_nodes}
+use Rattle.g_rules.specs.Keeps.{Keeps, KeepsValue, KeepsDeepValue, HasZero, HasGates, is_known, are_known, first_node, second_node}
+use Rattle.g_rules.specs.Literals.{literal_node, literal_value}
+use Rattle.g_rules.specs.Shapes.{shape_value, rewrite_value, shape_literals, operand_literals, rewrite_literals, shape_nodes, operand_nodes, deep_nodes}
 use Rattle.g_rules.proofs.Bits.{either, false_xor, xor_assoc}
 use Rattle.g_rules.proofs.Literals.{tested, inverted_value, node_of_inverted}
 
@@ -50,7 +50,7 @@ literals_within count nodes (l ∷ literals) some below e =
     let split = both_true (is_known nodes (l / 2)) (are_known nodes literals) e in
     (known_below count nodes (l / 2) some below split.0, literals_within count nodes literals some below split.1)
 
-nodes_within : (count : ℕ) (literals : List ℕ) → AreWithin count literals → NodesBelow count (map node_of literals)
+nodes_within : (count : ℕ) (literals : List ℕ) → AreWithin count literals → NodesBelow count (map literal_node literals)
 nodes_within count [] w = tt
 nodes_within count (l ∷ literals) w = (w.0, nodes_within count literals w.1)
 
@@ -98,10 +98,10 @@ deep_next gates first s invert r d o looked kept =
     let k : KeepsDeepValue (deep_of gates s) r = subst (λ z. KeepsDeepValue z r) looked kept in
     next_outcome gates (deep_nodes (deep_of gates s)) (HasGates (deep_of gates s)) first s invert r o k
     (λ values h. (h.0, h.1 (first_node s), h.1 (second_node s)))
-    (λ count gates_in shape_in. both_within count (shape_nodes s ++ gate_nodes (gates (first_node s))) (gate_nodes (gates (second_node s)))
-    (both_within count (shape_nodes s) (gate_nodes (gates (first_node s))) (nodes_within count (shape_literals s) shape_in)
-    (nodes_within count (gate_literals (gates (first_node s))) (gates_in (first_node s) (first_within count s shape_in))))
-    (nodes_within count (gate_literals (gates (second_node s))) (gates_in (second_node s) (second_within count s shape_in))))
+    (λ count gates_in shape_in. both_within count (shape_nodes s ++ operand_nodes (gates (first_node s))) (operand_nodes (gates (second_node s)))
+    (both_within count (shape_nodes s) (operand_nodes (gates (first_node s))) (nodes_within count (shape_literals s) shape_in)
+    (nodes_within count (operand_literals (gates (first_node s))) (gates_in (first_node s) (first_within count s shape_in))))
+    (nodes_within count (operand_literals (gates (second_node s))) (gates_in (second_node s) (second_within count s shape_in))))
 
 -- a shape itself
 pub outcome_none : (gates : ℕ → Option Shape) (s : Shape) → IsOutcome gates s (outcome.Gate s false)

@@ -1,5 +1,5 @@
 -- The rules that look at the gates below keep the value of a shape.
-use Rattle.std.proofs.Common.{◌≡◌, ◌==◌, ℕ, ◌/◌, List, [], ◌∷◌, ◌++◌, Bool, true, false, ◌&&◌, ◌||◌, Option, None, Some, refl, sym, ap, ◌∙◌, inl, inr}
+use Rattle.std.proofs.Common.{◌≡◌, ◌==◌, ℕ, ◌/◌, List, ◌++◌, Bool, true, false, ◌&&◌, ◌||◌, Option, None, Some, refl, sym, ap, ◌∙◌, inl, inr}
 use Rattle.std.specs.Prelude.{⊤}
 use Rattle.std.proofs.Math.Bool.{and_comm}
 use mathlib.Core.Bool.{xor, not}
@@ -9,8 +9,8 @@ use Rattle.g_rules.specs.declared.shapes.Rewrite.TheVariants.{Keep, Literal}
 use Rattle.g_rules.specs.declared.shapes.Rewrite.TheVariants as rewrite
 use Rattle.g_rules.specs.declared.shapes.Shape.{Shape}
 use Rattle.g_rules.specs.declared.shapes.Shape.TheVariants as shape
-use Rattle.g_rules.specs.Literals.{node_of, is_inverse, inverse_of, inverted_of, value_at, literal_value}
-use Rattle.g_rules.specs.Shapes.{shape_value, deep_nodes, shape_nodes, gate_nodes}
+use Rattle.g_rules.specs.Literals.{literal_node, is_inverse, inverse_of, inverted_of, value_at, literal_value}
+use Rattle.g_rules.specs.Shapes.{deep_nodes, shape_nodes, operand_nodes}
 use Rattle.g_rules.specs.Keeps.{Keeps, KeepsDeepValue, HasZero, HasGate, HasGates, is_known}
 use Rattle.g_rules.specs.DeepRules.{or_else, absorbed, subsumed, cancelled, and_absorb_of, and_subsume_of, xor_cancel_of}
 use Rattle.g_rules.proofs.AndRules.{unchanged}
@@ -163,13 +163,13 @@ cancelled_keeps : (nodes : List ℕ) (Holds : List Bool → Type 0) (a b : ℕ) 
 cancelled_keeps nodes Holds a b None w = unchanged nodes Holds (shape.Xor a b)
 cancelled_keeps nodes Holds a b (Some (shape.And x y)) w = unchanged nodes Holds (shape.Xor a b)
 cancelled_keeps nodes Holds a b (Some (shape.Xor x y)) w =
-    by_test (node_of a == node_of x) (Keeps nodes Holds (shape.Xor a b)) _ _ (λ t. node_cancelled nodes Holds a b x y w (tested (a / 2) (x / 2) t))
-    (λ t. by_test (node_of a == node_of y) (Keeps nodes Holds (shape.Xor a b)) _ _
+    by_test (literal_node a == literal_node x) (Keeps nodes Holds (shape.Xor a b)) _ _ (λ t. node_cancelled nodes Holds a b x y w (tested (a / 2) (x / 2) t))
+    (λ t. by_test (literal_node a == literal_node y) (Keeps nodes Holds (shape.Xor a b)) _ _
     (λ u. node_cancelled nodes Holds a b y x (turned_xor_gate nodes Holds a b x y w) (tested (a / 2) (y / 2) u))
     (λ u. unchanged nodes Holds (shape.Xor a b)))
 
 -- the operands of a gate are among its nodes
-gate_known : (gate : Option Shape) → GateKnown (gate_nodes gate) gate
+gate_known : (gate : Option Shape) → GateKnown (operand_nodes gate) gate
 gate_known None = tt
 gate_known (Some (shape.And x y)) = (first_known x y, second_known x y)
 gate_known (Some (shape.Xor x y)) = (first_known x y, second_known x y)
@@ -183,9 +183,9 @@ known_within xs ys (Some (shape.Xor x y)) f k = (f (x / 2) k.0, f (y / 2) k.1)
 right_below : (s : Shape) (left right : Option Shape) (a b : ℕ) → shape_nodes s ≡ both a b → ((values : List Bool) → HasGates (record { shape = s; left = left; right = right }) values → HasGate values (b / 2) right)
     → Below (deep_nodes (record { shape = s; left = left; right = right })) (HasGates (record { shape = s; left = left; right = right })) a b right
 right_below s left right a b e has = record {
-  first = known_left (shape_nodes s ++ gate_nodes left) (gate_nodes right) (a / 2) (known_left (shape_nodes s) (gate_nodes left) (a / 2) (rw e (first_known a b)));
-  second = known_left (shape_nodes s ++ gate_nodes left) (gate_nodes right) (b / 2) (known_left (shape_nodes s) (gate_nodes left) (b / 2) (rw e (second_known a b)));
-  operands = known_within (gate_nodes right) _ right (known_right (shape_nodes s ++ gate_nodes left) (gate_nodes right)) (gate_known right);
+  first = known_left (shape_nodes s ++ operand_nodes left) (operand_nodes right) (a / 2) (known_left (shape_nodes s) (operand_nodes left) (a / 2) (rw e (first_known a b)));
+  second = known_left (shape_nodes s ++ operand_nodes left) (operand_nodes right) (b / 2) (known_left (shape_nodes s) (operand_nodes left) (b / 2) (rw e (second_known a b)));
+  operands = known_within (operand_nodes right) _ right (known_right (shape_nodes s ++ operand_nodes left) (operand_nodes right)) (gate_known right);
   zero_is = λ values h. h.0;
   gate_is = has;
 }
@@ -193,10 +193,10 @@ right_below s left right a b e has = record {
 left_below : (s : Shape) (left right : Option Shape) (a b : ℕ) → shape_nodes s ≡ both a b → ((values : List Bool) → HasGates (record { shape = s; left = left; right = right }) values → HasGate values (a / 2) left)
     → Below (deep_nodes (record { shape = s; left = left; right = right })) (HasGates (record { shape = s; left = left; right = right })) b a left
 left_below s left right a b e has = record {
-  first = known_left (shape_nodes s ++ gate_nodes left) (gate_nodes right) (b / 2) (known_left (shape_nodes s) (gate_nodes left) (b / 2) (rw e (second_known a b)));
-  second = known_left (shape_nodes s ++ gate_nodes left) (gate_nodes right) (a / 2) (known_left (shape_nodes s) (gate_nodes left) (a / 2) (rw e (first_known a b)));
-  operands = known_within (gate_nodes left) _ left
-      (λ m k. known_left (shape_nodes s ++ gate_nodes left) (gate_nodes right) m (known_right (shape_nodes s) (gate_nodes left) m k)) (gate_known left);
+  first = known_left (shape_nodes s ++ operand_nodes left) (operand_nodes right) (b / 2) (known_left (shape_nodes s) (operand_nodes left) (b / 2) (rw e (second_known a b)));
+  second = known_left (shape_nodes s ++ operand_nodes left) (operand_nodes right) (a / 2) (known_left (shape_nodes s) (operand_nodes left) (a / 2) (rw e (first_known a b)));
+  operands = known_within (operand_nodes left) _ left
+      (λ m k. known_left (shape_nodes s ++ operand_nodes left) (operand_nodes right) m (known_right (shape_nodes s) (operand_nodes left) m k)) (gate_known left);
   zero_is = λ values h. h.0;
   gate_is = has;
 }

@@ -1,5 +1,5 @@
 -- Which nodes are known: the constant and those of a list.
-use Rattle.std.proofs.Common.{◌≡◌, ◌==◌, ℕ, ◌/◌, List, [], ◌∷◌, ◌++◌, Bool, true, false, ◌&&◌, ◌||◌, refl, sym, ap, ◌∙◌, arith, eq-eqb, subst}
+use Rattle.std.proofs.Common.{◌≡◌, ◌==◌, ℕ, ◌/◌, List, [], ◌∷◌, ◌++◌, Bool, true, false, ◌&&◌, ◌||◌, refl, ap, ◌∙◌, eq-eqb}
 use Rattle.std.proofs.Math.Bool.{or-true}
 use Rattle.g_rules.specs.Keeps.{is_known, are_known}
 use Rattle.g_rules.proofs.Literals.{tested}

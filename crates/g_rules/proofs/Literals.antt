@@ -1,8 +1,8 @@
 -- The values of constants, of inverses and of nodes themselves.
-use Rattle.std.proofs.Common.{◌≡◌, ◌≢◌, ◌==◌, ℕ, ◌+◌, ◌-◌, ◌*◌, ◌/◌, ◌%◌, List, Bool, true, false, get_or, refl, sym, ap, ◌∙◌, arith, if◌then◌else◌}
+use Rattle.std.proofs.Common.{◌≡◌, ◌≢◌, ◌==◌, ℕ, ◌+◌, ◌-◌, ◌/◌, ◌%◌, List, Bool, true, false, refl, sym, ap, ◌∙◌, arith}
 use Rattle.std.proofs.lemmas.Bool.Decides.{nat_tests}
-use mathlib.Core.Bool.{xor, not, beq}
-use Rattle.g_rules.specs.Literals.{node_of, is_inverse, inverse_of, inverted_of, even_of, value_at, literal_value}
+use mathlib.Core.Bool.{xor, not}
+use Rattle.g_rules.specs.Literals.{is_inverse, inverse_of, inverted_of, even_of, value_at, literal_value}
 use Rattle.g_rules.proofs.Bits.{by_test, false_xor, true_xor, not_xor, sign_apart}
 
 pub tested : (m n : ℕ) → (m == n) ≡ true → m ≡ n

@@ -1,13 +1,13 @@
 -- The plain rules for an `xor` keep its value.
-use Rattle.std.proofs.Common.{◌≡◌, ◌==◌, ℕ, ◌/◌, List, [], ◌∷◌, Bool, true, false, nat_lt, ◌||◌, refl, sym, ap, ◌∙◌}
-use mathlib.Core.Bool.{xor, not}
+use Rattle.std.proofs.Common.{◌≡◌, ◌==◌, ℕ, ◌/◌, false, nat_lt, ◌||◌, sym, ap, ◌∙◌}
+use mathlib.Core.Bool.{xor}
 use Rattle.g_rules.specs.declared.shapes.Rewrite.{Rewrite}
 use Rattle.g_rules.specs.declared.shapes.Rewrite.TheVariants.{Keep, Literal}
 use Rattle.g_rules.specs.declared.shapes.Rewrite.TheVariants as rewrite
 use Rattle.g_rules.specs.declared.shapes.Shape.{Shape}
 use Rattle.g_rules.specs.declared.shapes.Shape.TheVariants as shape
 use Rattle.g_rules.specs.Literals.{is_inverse, inverse_of, even_of, value_at, literal_value}
-use Rattle.g_rules.specs.Keeps.{Keeps, KeepsValue, HasZero}
+use Rattle.g_rules.specs.Keeps.{KeepsValue, HasZero}
 use Rattle.g_rules.specs.PlainRules.{xor_constant_of, xor_same_of, xor_signs_of, xor_order_of}
 use Rattle.g_rules.proofs.AndRules.{unchanged}
 use Rattle.g_rules.proofs.Bits.{by_test, false_xor, true_xor, xor_comm, xor_self, not_xor_self, signs_out}

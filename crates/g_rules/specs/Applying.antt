@@ -1,5 +1,5 @@
 -- What the rules of a book leave of a shape, one after another.
-use Rattle.std.specs.Prelude.{◌≡◌, ℕ, ◌<◌, List, [], ◌∷◌, Bool, true, false, Option, None, Some, ⊤}
+use Rattle.std.specs.Prelude.{◌≡◌, ℕ, ◌<◌, List, [], ◌∷◌, Bool, Option, ⊤}
 use Rattle.std.specs.Bool.{xor}
 use Rattle.g_rules.specs.declared.applying.Outcome.{Outcome}
 use Rattle.g_rules.specs.declared.applying.Outcome.TheVariants as outcome
@@ -9,8 +9,8 @@ use Rattle.g_rules.specs.declared.shapes.Rewrite.TheVariants as rewrite
 use Rattle.g_rules.specs.declared.shapes.Shape.{Shape}
 use Rattle.g_rules.specs.declared.shapes.Shape.TheVariants as shape
 use Rattle.g_rules.specs.Keeps.{HasZero, HasGate, first_node, second_node}
-use Rattle.g_rules.specs.Literals.{node_of, literal_value, inverted_of}
-use Rattle.g_rules.specs.Shapes.{shape_value, shape_literals, gate_literals}
+use Rattle.g_rules.specs.Literals.{literal_node, literal_value, inverted_of}
+use Rattle.g_rules.specs.Shapes.{shape_value, shape_literals, operand_literals}
 
 -- What is left where a rule rewrites a shape that is to be inverted or not: a literal, or a shape. Each rewrite with an
 -- inversion changes whether it is inverted.
@@ -46,11 +46,11 @@ HasEveryGate gates values = HasZero values × ((node : ℕ) → HasGate values n
 -- the literals are of so many first nodes
 abbrev pub AreWithin : ℕ → List ℕ → Type 0
 AreWithin count [] = ⊤
-AreWithin count (literal ∷ literals) = (node_of literal < count) × AreWithin count literals
+AreWithin count (literal ∷ literals) = (literal_node literal < count) × AreWithin count literals
 
 -- the gates at so many first nodes are over these nodes
 abbrev pub GatesWithin : ℕ → (ℕ → Option Shape) → Type 0
-GatesWithin count gates = (node : ℕ) → node < count → AreWithin count (gate_literals (gates node))
+GatesWithin count gates = (node : ℕ) → node < count → AreWithin count (operand_literals (gates node))
 
 -- What is left has the shape's value for all values of the nodes where these gates hold. It speaks of no nodes but
 -- those that are there: where the shape and the gates are over so many first nodes, it is too.

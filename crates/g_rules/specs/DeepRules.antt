@@ -1,5 +1,5 @@
 -- What each rule that looks at the gates below makes of a shape.
-use Rattle.std.specs.Prelude.{◌==◌, ℕ, ◌/◌, Bool, not, ◌||◌, if◌then◌else◌, Option, None, Some}
+use Rattle.std.specs.Prelude.{◌==◌, ℕ, not, ◌||◌, if◌then◌else◌, Option, None, Some}
 use Rattle.std.specs.Bool.{xor}
 use Rattle.g_rules.specs.declared.shapes.Deep.{Deep}
 use Rattle.g_rules.specs.declared.shapes.Rewrite.{Rewrite}
@@ -7,7 +7,7 @@ use Rattle.g_rules.specs.declared.shapes.Rewrite.TheVariants.{Keep, Literal}
 use Rattle.g_rules.specs.declared.shapes.Rewrite.TheVariants as rewrite
 use Rattle.g_rules.specs.declared.shapes.Shape.{Shape}
 use Rattle.g_rules.specs.declared.shapes.Shape.TheVariants as shape
-use Rattle.g_rules.specs.Literals.{node_of, is_inverse, inverse_of, inverted_of}
+use Rattle.g_rules.specs.Literals.{literal_node, is_inverse, inverse_of, inverted_of}
 
 -- the second where the first keeps the shape
 abbrev pub or_else : Rewrite → Rewrite → Rewrite
@@ -40,8 +40,8 @@ abbrev pub cancelled : ℕ → ℕ → Option Shape → Rewrite
 cancelled a b None = Keep
 cancelled a b (Some (shape.And x y)) = Keep
 cancelled a b (Some (shape.Xor x y)) =
-    if node_of a == node_of x then Literal (inverted_of y (xor (is_inverse b) (not (a == x))))
-    else if node_of a == node_of y then Literal (inverted_of x (xor (is_inverse b) (not (a == y))))
+    if literal_node a == literal_node x then Literal (inverted_of y (xor (is_inverse b) (not (a == x))))
+    else if literal_node a == literal_node y then Literal (inverted_of x (xor (is_inverse b) (not (a == y))))
     else Keep
 
 -- the second literal is tried first, then the first one in its place

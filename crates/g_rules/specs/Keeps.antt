@@ -1,10 +1,10 @@
 -- When a rule is right.
-use Rattle.std.specs.Prelude.{◌≡◌, ◌==◌, ℕ, ◌/◌, ◌^◌, ◌<◌, List, [], ◌∷◌, Bool, true, false, ◌&&◌, ◌||◌, Option, None, Some, ⊤, IsTrue}
+use Rattle.std.specs.Prelude.{◌≡◌, ◌==◌, ℕ, ◌^◌, ◌<◌, List, [], ◌∷◌, Bool, true, false, ◌&&◌, ◌||◌, Option, None, Some, ⊤, IsTrue}
 use Rattle.g_rules.specs.declared.shapes.Deep.{Deep}
 use Rattle.g_rules.specs.declared.shapes.Rewrite.{Rewrite}
 use Rattle.g_rules.specs.declared.shapes.Shape.{Shape}
 use Rattle.g_rules.specs.declared.shapes.Shape.TheVariants as shape
-use Rattle.g_rules.specs.Literals.{node_of, value_at}
+use Rattle.g_rules.specs.Literals.{literal_node, value_at}
 use Rattle.g_rules.specs.Shapes.{shape_value, rewrite_value, shape_nodes, deep_nodes, rewrite_literals}
 
 -- whether a node is the constant or one of these
@@ -15,7 +15,7 @@ is_known (known ∷ nodes) node = node == known || is_known nodes node
 -- whether the node of each literal is the constant or one of these
 abbrev pub are_known : List ℕ → List ℕ → Bool
 are_known nodes [] = true
-are_known nodes (literal ∷ literals) = is_known nodes (node_of literal) && are_known nodes literals
+are_known nodes (literal ∷ literals) = is_known nodes (literal_node literal) && are_known nodes literals
 
 -- the literals are numbers of the program
 abbrev pub HasNumbers : Shape → Type 0
@@ -45,13 +45,13 @@ KeepsValue s r = Keeps (shape_nodes s) HasZero s r
 
 -- the node of the first literal
 abbrev pub first_node : Shape → ℕ
-first_node (shape.And a b) = node_of a
-first_node (shape.Xor a b) = node_of a
+first_node (shape.And a b) = literal_node a
+first_node (shape.Xor a b) = literal_node a
 
 -- the node of the second literal
 abbrev pub second_node : Shape → ℕ
-second_node (shape.And a b) = node_of b
-second_node (shape.Xor a b) = node_of b
+second_node (shape.And a b) = literal_node b
+second_node (shape.Xor a b) = literal_node b
 
 -- where there is a gate at the node, the node has the gate's value
 abbrev pub HasGate : List Bool → ℕ → Option Shape → Type 0

@@ -1,5 +1,5 @@
 -- What each rule makes of a shape.
-use Rattle.std.specs.Prelude.{◌==◌, ℕ, ◌%◌, nat_lt, Bool, true, false, not, ◌||◌, if◌then◌else◌}
+use Rattle.std.specs.Prelude.{◌==◌, nat_lt, false, ◌||◌, if◌then◌else◌}
 use Rattle.std.specs.Bool.{xor}
 use Rattle.g_rules.specs.declared.shapes.Rewrite.{Rewrite}
 use Rattle.g_rules.specs.declared.shapes.Rewrite.TheVariants.{Keep, Literal}

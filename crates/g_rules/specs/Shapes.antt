@@ -1,12 +1,12 @@
 -- The values of shapes and rewrites, and the literals and nodes in them.
-use Rattle.std.specs.Prelude.{◌≡◌, ℕ, ◌^◌, ◌<◌, List, [], ◌∷◌, ◌++◌, map, Bool, ◌&&◌, Option, None, Some, ⊤}
+use Rattle.std.specs.Prelude.{ℕ, List, [], ◌∷◌, ◌++◌, map, Bool, ◌&&◌, Option, None, Some}
 use Rattle.std.specs.Bool.{xor}
 use Rattle.g_rules.specs.declared.shapes.Deep.{Deep}
 use Rattle.g_rules.specs.declared.shapes.Rewrite.{Rewrite}
 use Rattle.g_rules.specs.declared.shapes.Rewrite.TheVariants as rewrite
 use Rattle.g_rules.specs.declared.shapes.Shape.{Shape}
 use Rattle.g_rules.specs.declared.shapes.Shape.TheVariants as shape
-use Rattle.g_rules.specs.Literals.{node_of, value_at, literal_value}
+use Rattle.g_rules.specs.Literals.{literal_node, literal_value}
 
 abbrev pub shape_value : List Bool → Shape → Bool
 shape_value values (shape.And a b) = literal_value values a && literal_value values b
@@ -23,9 +23,9 @@ abbrev pub shape_literals : Shape → List ℕ
 shape_literals (shape.And a b) = a ∷ b ∷ []
 shape_literals (shape.Xor a b) = a ∷ b ∷ []
 
-abbrev pub gate_literals : Option Shape → List ℕ
-gate_literals None = []
-gate_literals (Some s) = shape_literals s
+abbrev pub operand_literals : Option Shape → List ℕ
+operand_literals None = []
+operand_literals (Some s) = shape_literals s
 
 abbrev pub rewrite_literals : Rewrite → List ℕ
 rewrite_literals rewrite.Keep = []
@@ -34,11 +34,11 @@ rewrite_literals (rewrite.And a b) = a ∷ b ∷ []
 rewrite_literals (rewrite.Xor a b invert) = a ∷ b ∷ []
 
 abbrev pub shape_nodes : Shape → List ℕ
-shape_nodes s = map node_of (shape_literals s)
+shape_nodes s = map literal_node (shape_literals s)
 
-abbrev pub gate_nodes : Option Shape → List ℕ
-gate_nodes gate = map node_of (gate_literals gate)
+abbrev pub operand_nodes : Option Shape → List ℕ
+operand_nodes gate = map literal_node (operand_literals gate)
 
--- the nodes that stand in a shape or in the gates below it
+-- the nodes that stand in a shape or in the gates at its nodes
 abbrev pub deep_nodes : Deep → List ℕ
-deep_nodes d = shape_nodes d.shape ++ gate_nodes d.left ++ gate_nodes d.right
+deep_nodes d = shape_nodes d.shape ++ operand_nodes d.left ++ operand_nodes d.right

@@ -1,4 +1,4 @@
-use Rattle.std.proofs.Common.{None, rules}
+use Rattle.std.proofs.Common.{None}
 use Rattle.g_rules.proofs.Applied.{plain_next, outcome_none, leaves_literal, leaves_next}
 use Rattle.g_rules.proofs.applying.apply_plain.Goals as goal
 

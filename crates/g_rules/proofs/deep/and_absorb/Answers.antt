@@ -1,0 +1,6 @@
+use Rattle.std.proofs.Common.{rules}
+use Rattle.g_rules.proofs.DeepRight.{and_absorb_keeps}
+use Rattle.g_rules.proofs.deep.and_absorb.Goals as goal
+
+pub returns-in-And-clause-keeps : goal.returns-in-And-clause-keeps
+returns-in-And-clause-keeps c = and_absorb_keeps _ _ (search rules)

@@ -53,6 +53,10 @@ pub of_module : (m : Module) (all : List Occurrence) (first : Option ℕ) (place
     ((names : List Entry) → first ≡ least_from None (places (marks_in names all))) → first ≡ least_from None (places (module_marks (names_of m) m))
 of_module m all first places marks h = h (names_of m) ∙ ap (λ (ms : List Mark). least_from None (places ms)) (marks (names_of m))
 
+-- the same occurrences, as a slice
+pub sliced : (m : Module) (xs ys : List Occurrence) → xs ≡ ys → ((names : List Entry) → marks_in names ys ≡ module_marks names m) → (names : List Entry) → marks_in names xs ≡ module_marks names m
+sliced m xs ys is marks names = ap (marks_in names) is ∙ marks names
+
 pub twice_first : (m : Module) (all : List Occurrence) (f : Option ℕ) (at : ℕ) → ((names : List Entry) → marks_in names all ≡ module_marks names m) →
     ((names : List Entry) → f ≡ least_from None (declared_twice [] (marks_in names all))) → f ≡ Some at → first_fault (places_of m) scope_rules ≡ Some (record { rule = r.E4; at = at })
 twice_first m all f at marks t is =

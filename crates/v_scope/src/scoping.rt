@@ -19,14 +19,15 @@ pub fn scope(alloc: Global, module: &Module) -> Result<(), Stop>
     ensures refused { IfFault result (λ fault. first_fault (places_of «module».now) scope_rules ≡ Some fault) }
     ensures accepted { IfOk result (λ _. first_fault (places_of «module».now) scope_rules ≡ None) }
 {
-    let all = occurrences(alloc, module)?;
-    if let Some(at) = first_twice(alloc, &all)? {
+    let found = occurrences(alloc, module)?;
+    let all = found.as_slice();
+    if let Some(at) = first_twice(alloc, all)? {
         return Err(broken(Rule::E4, at));
     }
-    if let Some(at) = first_early(alloc, &all)? {
+    if let Some(at) = first_early(alloc, all)? {
         return Err(broken(Rule::E5, at));
     }
-    match first_wrong_number(&all) {
+    match first_wrong_number(all) {
         Some(at) => Err(broken(Rule::E6, at)),
         None => Ok(()),
     }

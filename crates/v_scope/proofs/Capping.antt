@@ -1,6 +1,6 @@
 -- Numbers up to a limit, and the digits among bytes.
 use Rattle.std.proofs.Common.{◌≡◌, ◌≤◌, ◌<◌, ◌+◌, ◌*◌, ◌^◌, ℕ, List, [], ◌∷◌, Bool, true, false, not, cond, length, drop, drop-cons, get_or, add-one, subst, refl, sym, ap, ◌∙◌, arith}
-use Rattle.std.specs.Prelude.{◌||◌, ◌&&◌, ◌==◌, min, nat_le, nat_lt}
+use Rattle.std.specs.Prelude.{◌||◌, ◌&&◌, ◌==◌, min}
 use Rattle.std.specs.List.{list_any}
 use Rattle.v_syntax.specs.Numbers.{is_white, is_unknown_digit}
 use Rattle.v_syntax.specs.declared.expr.Spelling.{Spelling}

@@ -51,7 +51,7 @@ pub when_chain : (x a b : Expr) (links more : List (BinaryOperator × Expr)) →
     (names : List Entry) → marks_of names x ≡ marks_of names b ++ flat_map (link_marks names) more
 when_chain x a b links more is p q names =
     rw (p, q) (ap (marks_of names) is ∙ ap (marks_of names) (sym (e.rolls-Chain a links)) ∙ para-roll-Expr (List Mark) (mark_step names) (o.Chain a links)
-        ∙ ap (λ (r : List Mark). marks_of names a ++ r) (links_map names links))
+    ∙ ap (λ (r : List Mark). marks_of names a ++ r) (links_map names links))
 
 pub when_conditional : (x c a b c' a' b' : Expr) → x ≡ e.Conditional c a b → c' ≡ c → a' ≡ a → b' ≡ b →
     (names : List Entry) → marks_of names x ≡ marks_of names c' ++ marks_of names a' ++ marks_of names b'
@@ -71,15 +71,15 @@ pub when_concat : (x : Expr) (brace : ℕ) (parts more : List Expr) → x ≡ e.
     (names : List Entry) → marks_of names x ≡ (Joined (all_width names more) brace ∷ []) ++ flat_map (part_marks names) more
 when_concat x brace parts more is q names =
     rw q (ap (marks_of names) is ∙ ap (marks_of names) (sym (e.rolls-Concat brace parts)) ∙ para-roll-Expr (List Mark) (mark_step names) (o.Concat brace parts)
-        ∙ ap (λ (r : List Mark). Joined (all_width names (operands (map (λ (y : Expr). (y, marks_of names y)) parts))) brace ∷ r) (parts_map names parts)
-        ∙ ap (λ (ys : List Expr). Joined (all_width names ys) brace ∷ flat_map (part_marks names) parts) (themselves (marks_of names) parts))
+    ∙ ap (λ (r : List Mark). Joined (all_width names (operands (map (λ (y : Expr). (y, marks_of names y)) parts))) brace ∷ r) (parts_map names parts)
+    ∙ ap (λ (ys : List Expr). Joined (all_width names ys) brace ∷ flat_map (part_marks names) parts) (themselves (marks_of names) parts))
 
 pub when_replicate : (x c c' : Expr) (brace ca inner : ℕ) (parts more : List Expr) → x ≡ e.Replicate brace ca c inner parts → c' ≡ c → more ≡ parts →
     (names : List Entry) → marks_of names x ≡ (Joined (or_zero (constant_value names c') * all_width names more) brace ∷ []) ++ marks_of names c' ++ flat_map (part_marks names) more
 when_replicate x c c' brace ca inner parts more is p q names =
     rw (p, q) (ap (marks_of names) is ∙ ap (marks_of names) (sym (e.rolls-Replicate brace ca c inner parts)) ∙ para-roll-Expr (List Mark) (mark_step names) (o.Replicate brace ca c inner parts)
-        ∙ ap (λ (r : List Mark). Joined (or_zero (constant_value names c) * all_width names (operands (map (λ (y : Expr). (y, marks_of names y)) parts))) brace ∷ marks_of names c ++ r) (parts_map names parts)
-        ∙ ap (λ (ys : List Expr). Joined (or_zero (constant_value names c) * all_width names ys) brace ∷ marks_of names c ++ flat_map (part_marks names) parts) (themselves (marks_of names) parts))
+    ∙ ap (λ (r : List Mark). Joined (or_zero (constant_value names c) * all_width names (operands (map (λ (y : Expr). (y, marks_of names y)) parts))) brace ∷ marks_of names c ++ r) (parts_map names parts)
+    ∙ ap (λ (ys : List Expr). Joined (or_zero (constant_value names c) * all_width names ys) brace ∷ marks_of names c ++ flat_map (part_marks names) parts) (themselves (marks_of names) parts))
 
 -- ---- numbers that are parts
 

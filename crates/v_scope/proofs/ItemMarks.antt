@@ -1,5 +1,5 @@
 -- The marks of the items of a module, and of the module.
-use Rattle.std.proofs.Common.{◌≡◌, ℕ, List, [], ◌++◌, flat_map, Bool, Option, refl, sym, ap, ◌∙◌}
+use Rattle.std.proofs.Common.{◌≡◌, List, [], ◌++◌, flat_map, Bool, Option, refl, sym, ap, ◌∙◌}
 use Rattle.v_syntax.specs.declared.expr.Range.{Range}
 use Rattle.v_syntax.specs.declared.module.Setting.{Setting}
 use Rattle.v_syntax.specs.declared.module.Declared.{Declared}
@@ -10,7 +10,7 @@ use Rattle.v_syntax.specs.declared.module.Item.{Item}
 use Rattle.v_syntax.specs.declared.module.Item.TheVariants as i
 use Rattle.v_syntax.specs.declared.module.Module.{Module}
 use Rattle.v_meaning.specs.declared.names.Entry.{Entry}
-use Rattle.v_meaning.specs.Marks.{Mark, range_marks, declared_marks, variable_marks, assign_marks, parameter_marks, port_marks, module_item_marks, module_marks}
+use Rattle.v_meaning.specs.Marks.{range_marks, declared_marks, variable_marks, assign_marks, parameter_marks, port_marks, module_item_marks, module_marks}
 use Rattle.v_scope.specs.declared.occurrence.Occurrence.{Occurrence}
 use Rattle.v_scope.specs.Occurrences.{marks_in, Adds}
 use Rattle.v_scope.proofs.Adding.{then_more}
@@ -31,8 +31,8 @@ pub module_is : (m : Module) (z a b c : List Occurrence) (ps : List ParameterGro
     (names : List Entry) → marks_in names c ≡ module_marks names m
 module_is m z a b c ps qs items none p q r one two three names =
     (then_more z b c (λ ns. flat_map (parameter_marks ns) ps ++ flat_map (port_marks ns) qs) (λ ns. flat_map (module_item_marks ns) items)
-        (λ ns. flat_map (parameter_marks ns) ps ++ flat_map (port_marks ns) qs ++ flat_map (module_item_marks ns) items) (λ ns. refl)
-        (then_more z a b (λ ns. flat_map (parameter_marks ns) ps) (λ ns. flat_map (port_marks ns) qs) (λ ns. flat_map (parameter_marks ns) ps ++ flat_map (port_marks ns) qs) (λ ns. refl) one two) three).added names
+    (λ ns. flat_map (parameter_marks ns) ps ++ flat_map (port_marks ns) qs ++ flat_map (module_item_marks ns) items) (λ ns. refl)
+    (then_more z a b (λ ns. flat_map (parameter_marks ns) ps) (λ ns. flat_map (port_marks ns) qs) (λ ns. flat_map (parameter_marks ns) ps ++ flat_map (port_marks ns) qs) (λ ns. refl) one two) three).added names
     ∙ ap (λ (l : List Occurrence). marks_in names l ++ (flat_map (parameter_marks names) ps ++ flat_map (port_marks names) qs ++ flat_map (module_item_marks names) items)) none
     ∙ ap (λ (l : List ParameterGroup). flat_map (parameter_marks names) l ++ flat_map (port_marks names) qs ++ flat_map (module_item_marks names) items) p
     ∙ ap (λ (l : List PortGroup). flat_map (parameter_marks names) m.parameters ++ flat_map (port_marks names) l ++ flat_map (module_item_marks names) items) q

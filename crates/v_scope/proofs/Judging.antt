@@ -1,6 +1,6 @@
 -- The rules of names, mark by mark.
-use Rattle.std.proofs.Common.{◌≡◌, ◌<◌, ◌≤◌, ◌+◌, ℕ, suc, List, [], ◌∷◌, ◌++◌, map, flat_map, length, drop, get_or, Bool, true, false, not, Option, None, Some, refl, sym, ap, ◌∙◌, Bor, append_assoc, subst, Result, Ok, Err, IfOk}
-use Rattle.std.specs.Prelude.{◌||◌, ◌&&◌, bytes_eq, min}
+use Rattle.std.proofs.Common.{◌≡◌, ◌<◌, ◌≤◌, ◌+◌, ℕ, List, [], ◌∷◌, ◌++◌, flat_map, length, drop, get_or, Bool, true, false, not, Option, None, Some, refl, sym, ap, ◌∙◌, Bor, append_assoc, subst, Result, Ok, Err, IfOk}
+use Rattle.std.specs.Prelude.{◌||◌, ◌&&◌, bytes_eq}
 use Rattle.std.specs.BTreeSet.{BTreeSet}
 use Rattle.std.specs.Option.{option_copied}
 use Rattle.std.proofs.lemmas.List.{append-nil, drop_all}
@@ -156,9 +156,10 @@ whole xs rest all none is = sym (ap (λ (l : List (List ℕ)). xs ++ l) none ∙
 
 pub names_end : (names : List Entry) (all : List Occurrence) (i : ℕ) (declared parameters : BTreeSet (Bor (List ℕ))) → length all ≤ i → NamesGo names all i declared parameters →
     Met declared (declared_in (marks_in names all)) × Met parameters (valued_in (marks_in names all))
-names_end names all i declared parameters h g =
-    (subst (Met declared) (whole g.known (declared_in (marks_in names (drop i all))) (declared_in (marks_in names all)) (ap (λ (os : List Occurrence). declared_in (marks_in names os)) (drop_all i all h)) g.all_known) g.met_known,
-    subst (Met parameters) (whole g.valued (valued_in (marks_in names (drop i all))) (valued_in (marks_in names all)) (ap (λ (os : List Occurrence). valued_in (marks_in names os)) (drop_all i all h)) g.all_valued) g.met_valued)
+names_end names all i declared parameters h g = (
+  subst (Met declared) (whole g.known (declared_in (marks_in names (drop i all))) (declared_in (marks_in names all)) (ap (λ (os : List Occurrence). declared_in (marks_in names os)) (drop_all i all h)) g.all_known) g.met_known,
+  subst (Met parameters) (whole g.valued (valued_in (marks_in names (drop i all))) (valued_in (marks_in names all)) (ap (λ (os : List Occurrence). valued_in (marks_in names os)) (drop_all i all h)) g.all_valued) g.met_valued,
+)
 
 -- ---- the rounds for E5
 
@@ -225,8 +226,10 @@ pub twice_some : (met : BTreeSet (Bor (List ℕ))) (before : List (List ℕ)) (i
     added ≡ not (is_among key before) → Met met (before ++ key ∷ []) → more ≡ least_from first (place_if (not added) r.now.at) →
     (more ≡ least_from first (twice_at before (option_copied ident))) × Met met (behind before (option_copied ident))
 twice_some met before ident r key added first more is name was m note =
-    rw is (note ∙ ap (λ (b : Bool). least_from first (place_if b r.now.at)) (ap not was ∙ not_not (is_among key before) ∙ ap (λ (k : List ℕ). is_among k before) name),
-        subst (λ (k : List ℕ). Met met (k ∷ before)) name (met_before met before key m))
+    rw is (
+      note ∙ ap (λ (b : Bool). least_from first (place_if b r.now.at)) (ap not was ∙ not_not (is_among key before) ∙ ap (λ (k : List ℕ). is_among k before) name),
+      subst (λ (k : List ℕ). Met met (k ∷ before)) name (met_before met before key m),
+    )
 
 pub used_none : (ks ps es : List (List ℕ)) (ident : Option (Bor Ident)) (first : Option ℕ) → ident ≡ None → first ≡ least_from first (early_at ks ps es (option_copied ident))
 used_none ks ps es ident first is = rw is refl

@@ -58,8 +58,8 @@ pub when_joined : (x : Target) (brace : ℕ) (parts more : List Target) → x �
     (names : List Entry) → target_marks names x ≡ (Joined (width_of_targets names more) brace ∷ []) ++ flat_map (target_marks names) more
 when_joined x brace parts more is p names =
     rw p (ap (target_marks names) is ∙ ap (target_marks names) (sym (t.rolls-Concat brace parts)) ∙ para-roll-Target (List Mark) (target_mark_step names) (q.Concat brace parts)
-        ∙ ap (λ (r : List Mark). Joined (targets_width names (map (λ (y : Target). (y, target_marks names y)) parts)) brace ∷ r) (targets_map names parts)
-        ∙ ap (λ (w : ℕ). Joined w brace ∷ flat_map (target_marks names) parts) (widths_map names parts))
+    ∙ ap (λ (r : List Mark). Joined (targets_width names (map (λ (y : Target). (y, target_marks names y)) parts)) brace ∷ r) (targets_map names parts)
+    ∙ ap (λ (w : ℕ). Joined w brace ∷ flat_map (target_marks names) parts) (widths_map names parts))
 
 -- ---- the labels of arms
 
@@ -97,19 +97,19 @@ joined_map f (x ∷ xs) =
 pub when_block : (x : Stmt) (body more : List Stmt) → x ≡ s.Block body → more ≡ body → (names : List Entry) → stmt_marks names x ≡ flat_map (stmt_marks names) more
 when_block x body more is p names =
     rw p (ap (stmt_marks names) is ∙ ap (stmt_marks names) (sym (s.rolls-Block body))
-        ∙ fold-roll-Stmt (List Mark) ArmMarks (stmt_mark_step names) (λ arm. record { label = arm.label; body = arm.body }) (o.Block body)
-        ∙ joined_map (stmt_marks names) body)
+    ∙ fold-roll-Stmt (List Mark) ArmMarks (stmt_mark_step names) (λ arm. record { label = arm.label; body = arm.body }) (o.Block body)
+    ∙ joined_map (stmt_marks names) body)
 
 pub when_if : (x a b : Stmt) (c : Expr) → x ≡ s.If c a → b ≡ a → (names : List Entry) → stmt_marks names x ≡ marks_of names c ++ stmt_marks names b
 when_if x a b c is p names =
     rw p (ap (stmt_marks names) is ∙ ap (stmt_marks names) (sym (s.rolls-If c a))
-        ∙ fold-roll-Stmt (List Mark) ArmMarks (stmt_mark_step names) (λ arm. record { label = arm.label; body = arm.body }) (o.If c a))
+    ∙ fold-roll-Stmt (List Mark) ArmMarks (stmt_mark_step names) (λ arm. record { label = arm.label; body = arm.body }) (o.If c a))
 
 pub when_if_else : (x a b a' b' : Stmt) (c : Expr) → x ≡ s.IfElse c a b → a' ≡ a → b' ≡ b →
     (names : List Entry) → stmt_marks names x ≡ marks_of names c ++ stmt_marks names a' ++ stmt_marks names b'
 when_if_else x a b a' b' c is p r names =
     rw (p, r) (ap (stmt_marks names) is ∙ ap (stmt_marks names) (sym (s.rolls-IfElse c a b))
-        ∙ fold-roll-Stmt (List Mark) ArmMarks (stmt_mark_step names) (λ arm. record { label = arm.label; body = arm.body }) (o.IfElse c a b))
+    ∙ fold-roll-Stmt (List Mark) ArmMarks (stmt_mark_step names) (λ arm. record { label = arm.label; body = arm.body }) (o.IfElse c a b))
 
 abbrev arm_marks : List Entry → Arm → ArmMarks
 arm_marks names = fold-Arm (List Mark) ArmMarks (stmt_mark_step names) (λ arm. record { label = arm.label; body = arm.body })
@@ -127,14 +127,14 @@ pub when_case : (x : Stmt) (kind : CaseKind) (subject : Expr) (arms more : List 
     (names : List Entry) → stmt_marks names x ≡ marks_of names subject ++ arms_behind names kind false more
 when_case x kind subject arms more is p names =
     rw p (ap (stmt_marks names) is ∙ ap (stmt_marks names) (sym (s.rolls-Case kind subject arms))
-        ∙ fold-roll-Stmt (List Mark) ArmMarks (stmt_mark_step names) (λ arm. record { label = arm.label; body = arm.body }) (o.Case kind subject arms)
-        ∙ ap (λ (r : List Mark). marks_of names subject ++ r) (arms_map names kind false arms))
+    ∙ fold-roll-Stmt (List Mark) ArmMarks (stmt_mark_step names) (λ arm. record { label = arm.label; body = arm.body }) (o.Case kind subject arms)
+    ∙ ap (λ (r : List Mark). marks_of names subject ++ r) (arms_map names kind false arms))
 
 pub when_assign : (x : Stmt) (target other : Target) (kind : AssignKind) (value : Expr) → x ≡ s.Assign target kind value → other ≡ target →
     (names : List Entry) → stmt_marks names x ≡ target_marks names other ++ marks_of names value
 when_assign x target other kind value is p names =
     rw p (ap (stmt_marks names) is ∙ ap (stmt_marks names) (sym (s.rolls-Assign target kind value))
-        ∙ fold-roll-Stmt (List Mark) ArmMarks (stmt_mark_step names) (λ arm. record { label = arm.label; body = arm.body }) (o.Assign target kind value))
+    ∙ fold-roll-Stmt (List Mark) ArmMarks (stmt_mark_step names) (λ arm. record { label = arm.label; body = arm.body }) (o.Assign target kind value))
 
 -- ---- the arms of a case, one after another
 

@@ -22,10 +22,7 @@ trait Listed {
 }
 
 // Appends the occurrences of all of these.
-fn add_each<'a, T: Listed>(
-    parts: &'a [T],
-    all: &mut Vec<Occurrence<'a>>,
-) -> Result<(), OutOfMemory>
+fn add_each<'a, T: Listed>(parts: &'a [T], all: &mut Vec<Occurrence<'a>>) -> Result<(), OutOfMemory>
     ensures { OnOk result (Adds all.old.items all.new.items (λ names. flat_map (T.marks names) parts.now)) }
 {
     for part in parts {
@@ -136,7 +133,9 @@ impl Listed for Item {
                 add_each(nets.as_slice(), all)
             }
             Item::Regs {
-                range, variables, ..
+                range,
+                variables,
+                ..
             } => {
                 add_some_range(range, all)?;
                 add_each(variables.as_slice(), all)
@@ -151,10 +150,7 @@ impl Listed for Item {
 }
 
 // Appends the occurrences of an assignment of a net.
-fn add_assign<'a>(
-    setting: &'a Setting,
-    all: &mut Vec<Occurrence<'a>>,
-) -> Result<(), OutOfMemory>
+fn add_assign<'a>(setting: &'a Setting, all: &mut Vec<Occurrence<'a>>) -> Result<(), OutOfMemory>
     ensures { OnOk result (Adds all.old.items all.new.items (λ names. assign_marks names setting.now)) }
 {
     add(all, Occurrence::Bare(&setting.name))?;

@@ -87,10 +87,7 @@ fn add_links<'a>(
 
 // Appends the occurrences of the parts of a concatenation or replication.
 #[cycle(expressions)]
-fn add_parts<'a>(
-    parts: &'a [Expr],
-    all: &mut Vec<Occurrence<'a>>,
-) -> Result<(), OutOfMemory>
+fn add_parts<'a>(parts: &'a [Expr], all: &mut Vec<Occurrence<'a>>) -> Result<(), OutOfMemory>
     ensures { OnOk result (Adds all.old.items all.new.items (λ names. flat_map (part_marks names) parts.now)) }
 {
     for part in parts {

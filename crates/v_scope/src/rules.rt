@@ -48,10 +48,7 @@ fn note_declared<'a>(
 }
 
 // The least place where a name is declared that was declared before.
-pub(crate) fn first_twice(
-    alloc: Global,
-    all: &[Occurrence<'_>],
-) -> Result<Option<u64>, OutOfMemory>
+pub(crate) fn first_twice(alloc: Global, all: &[Occurrence<'_>]) -> Result<Option<u64>, OutOfMemory>
     ensures { IfOk result (λ first. (names : List Entry) → first ≡ least_from None (declared_twice [] (marks_in names all.now))) }
 {
     let mut met = no_names(alloc);
@@ -140,10 +137,7 @@ fn first_among<'a>(
 }
 
 // The least place where a name is used that is declared nowhere, or a parameter before its value has ended.
-pub(crate) fn first_early(
-    alloc: Global,
-    all: &[Occurrence<'_>],
-) -> Result<Option<u64>, OutOfMemory>
+pub(crate) fn first_early(alloc: Global, all: &[Occurrence<'_>]) -> Result<Option<u64>, OutOfMemory>
     ensures { IfOk result (λ first. (names : List Entry) → first ≡ least_from None (used_early (declared_in (marks_in names all.now)) (valued_in (marks_in names all.now)) [] (marks_in names all.now))) }
 {
     let mut known = no_names(alloc);

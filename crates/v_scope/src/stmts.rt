@@ -48,10 +48,7 @@ fn add_target<'a>(target: &'a Target, all: &mut Vec<Occurrence<'a>>) -> Result<(
 
 // Appends the occurrences of the parts of a target.
 #[cycle(targets)]
-fn add_targets<'a>(
-    targets: &'a [Target],
-    all: &mut Vec<Occurrence<'a>>,
-) -> Result<(), OutOfMemory>
+fn add_targets<'a>(targets: &'a [Target], all: &mut Vec<Occurrence<'a>>) -> Result<(), OutOfMemory>
     ensures { OnOk result (Adds all.old.items all.new.items (λ names. flat_map (target_marks names) targets.now)) }
 {
     for target in targets {
@@ -107,11 +104,7 @@ fn add_label<'a>(
 }
 
 // Appends the occurrence of a `default` behind another one, and nothing for a first one.
-fn add_default<'a>(
-    met: bool,
-    at: u64,
-    all: &mut Vec<Occurrence<'a>>,
-) -> Result<(), OutOfMemory>
+fn add_default<'a>(met: bool, at: u64, all: &mut Vec<Occurrence<'a>>) -> Result<(), OutOfMemory>
     ensures { OnOk result (Adds all.old.items all.new.items (λ names. if met then marks.Again at ∷ [] else [])) }
 {
     if met {
@@ -168,10 +161,7 @@ pub(crate) fn add_stmt<'a>(
 
 // Appends the occurrences of the statements of a block.
 #[cycle(statements)]
-fn add_stmts<'a>(
-    statements: &'a [Stmt],
-    all: &mut Vec<Occurrence<'a>>,
-) -> Result<(), OutOfMemory>
+fn add_stmts<'a>(statements: &'a [Stmt], all: &mut Vec<Occurrence<'a>>) -> Result<(), OutOfMemory>
     ensures { OnOk result (Adds all.old.items all.new.items (λ names. flat_map (stmt_marks names) statements.now)) }
 {
     for statement in statements {

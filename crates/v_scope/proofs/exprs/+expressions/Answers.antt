@@ -1,5 +1,5 @@
 use Rattle.std.proofs.Common.{refl}
-use Rattle.v_scope.proofs.Adding.{same_end, then_end, three_end, then_more, each_next, each_ends}
+use Rattle.v_scope.proofs.Adding.{same_end, then_end, three_end, then_more, each_next}
 use Rattle.v_scope.proofs.ExprMarks.{when_number, when_name, when_select, when_part, when_unary, when_chain, when_conditional, when_concat, when_replicate, when_cast}
 use Rattle.v_scope.proofs.exprs.+expressions.Goals as goal
 
@@ -26,7 +26,7 @@ add_expr-returns-in_ok-add_expr-in-Chain t c =
 pub add_expr-returns-in_ok-add_expr-in-Conditional-2 : goal.add_expr-returns-in_ok-add_expr-in-Conditional-2
 add_expr-returns-in_ok-add_expr-in-Conditional-2 t c =
     three_end c.add_expr-in-Conditional-3.result _ _ _ _ _ _ _ _ (when_conditional _ _ _ _ _ _ _ c.in-Conditional.is c.get-in-Conditional.ensures c.get-in-Conditional-2.ensures c.get-in-Conditional-3.ensures)
-        c.in_ok-add_expr-in-Conditional.ensures c.in_ok-add_expr-in-Conditional-2.ensures c.add_expr-in-Conditional-3.ensures
+    c.in_ok-add_expr-in-Conditional.ensures c.in_ok-add_expr-in-Conditional-2.ensures c.add_expr-in-Conditional-3.ensures
 
 pub add_expr-returns-in_ok-add-in-Concat : goal.add_expr-returns-in_ok-add-in-Concat
 add_expr-returns-in_ok-add-in-Concat t c =
@@ -35,7 +35,7 @@ add_expr-returns-in_ok-add-in-Concat t c =
 pub add_expr-returns-in_ok-add_expr-in-Replicate : goal.add_expr-returns-in_ok-add_expr-in-Replicate
 add_expr-returns-in_ok-add_expr-in-Replicate t c =
     three_end c.add_parts-in-Replicate.result _ _ _ _ _ _ _ _ (when_replicate _ _ _ _ _ _ _ _ c.in-Replicate.is c.get-count.ensures c.as_slice-parts-in-Replicate.ensures)
-        c.in_ok-add-in-Replicate.ensures c.in_ok-add_expr-in-Replicate.ensures c.add_parts-in-Replicate.ensures
+    c.in_ok-add-in-Replicate.ensures c.in_ok-add_expr-in-Replicate.ensures c.add_parts-in-Replicate.ensures
 
 pub add_expr-returns-in-Cast : goal.add_expr-returns-in-Cast
 add_expr-returns-in-Cast t c = same_end c.add_expr-in-Cast.result _ _ _ _ (when_cast _ _ _ _ c.in-Cast.is c.get-in-Cast.ensures) c.add_expr-in-Cast.ensures

@@ -15,7 +15,7 @@ add_stmt-returns-in_ok-add_expr-in-If t c = then_end c.add_stmt.result _ _ _ _ _
 pub add_stmt-returns-in_ok-add_stmt-in-IfElse : goal.add_stmt-returns-in_ok-add_stmt-in-IfElse
 add_stmt-returns-in_ok-add_stmt-in-IfElse t c =
     three_end c.add_stmt-in-IfElse-2.result _ _ _ _ _ _ _ _ (when_if_else _ _ _ _ _ _ c.in-IfElse.is c.get-in-IfElse.ensures c.get-in-IfElse-2.ensures)
-        c.in_ok-add_expr-in-IfElse.ensures c.in_ok-add_stmt-in-IfElse.ensures c.add_stmt-in-IfElse-2.ensures
+    c.in_ok-add_expr-in-IfElse.ensures c.in_ok-add_stmt-in-IfElse.ensures c.add_stmt-in-IfElse-2.ensures
 
 pub add_stmt-returns-in_ok-add_expr-in-Case : goal.add_stmt-returns-in_ok-add_expr-in-Case
 add_stmt-returns-in_ok-add_expr-in-Case t c =

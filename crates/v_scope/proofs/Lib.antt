@@ -1,0 +1,7 @@
+pub mod Adding
+pub mod ExprMarks
+pub mod StmtMarks
+pub mod ItemMarks
+pub mod Judging
+pub mod Capping
+pub mod Faults

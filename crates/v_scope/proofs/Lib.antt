@@ -3,5 +3,4 @@ pub mod ExprMarks
 pub mod StmtMarks
 pub mod ItemMarks
 pub mod Judging
-pub mod Capping
 pub mod Faults

@@ -2,5 +2,4 @@ pub mod Occurrences
 pub mod Lists
 pub mod Idents
 pub mod Firsts
-pub mod Capped
 pub mod Scope

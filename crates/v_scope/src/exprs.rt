@@ -1,14 +1,14 @@
 ghost use Rattle.std.specs.Prelude.{◌≡◌, [], ◌∷◌, OnOk, flat_map, Some};
 ghost use Rattle.std.specs.Option.{option_copied};
 ghost use Rattle.v_meaning.specs.Expressions.{number_by_itself};
-ghost use Rattle.v_meaning.specs.Literals as literals;
 ghost use Rattle.v_meaning.specs.Marks.{marks_of, unsized_number};
 ghost use Rattle.v_scope.specs.Occurrences.{Adds, mark_of};
 ghost use Rattle.v_scope.specs.Lists.{link_marks, part_marks};
 
 use crate::Occurrence;
 use lz_base::OutOfMemory;
-use v_syntax::{BinaryOperator, Expr, Number, Spelling};
+use v_numbers::is_unsized;
+use v_syntax::{BinaryOperator, Expr, Number};
 
 // Appends an occurrence.
 #[tactic(auto, using(crate::proofs::Adding::one_more))]
@@ -118,16 +118,6 @@ fn add_unsized_number<'a>(
         add(all, Occurrence::UnsizedPart(number.at))
     } else {
         Ok(())
-    }
-}
-
-// Whether a number has no size.
-fn is_unsized(spelling: &Spelling) -> bool
-    ensures { result ≡ literals.is_unsized spelling.now }
-{
-    match spelling {
-        Spelling::Decimal(_) | Spelling::Based(_) => true,
-        Spelling::Sized(_, _) => false,
     }
 }
 

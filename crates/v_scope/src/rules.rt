@@ -9,10 +9,10 @@ ghost use Rattle.v_scope.specs.Idents.{behind, twice_at, early_at, is_early};
 
 use crate::Occurrence;
 use crate::idents::{declared, is_met, meet_some, used, valued};
-use crate::numbers::is_wrong;
 use lz_base::{OutOfMemory, meet, no_names};
 use std::alloc::Global;
 use std::collections::BTreeSet;
+use v_numbers::is_wrong;
 use v_syntax::Ident;
 
 // The least place where a rule is broken, from the least one before and a place where it may be broken too.

@@ -1,5 +1,5 @@
 -- Selection by the leaves of a table, from two halves of the table.
-use Rattle.std.proofs.Common.{◌≡◌, ◌<◌, ◌≤◌, ◌+◌, ◌*◌, ◌/◌, ◌%◌, ◌^◌, ◌==◌, ◌&&◌, ℕ, zero, suc, List, [], ◌∷◌, ◌++◌, length, take, map, get_or, Bool, true, false, if◌then◌else◌, arith, refl, ap, sym, subst, below_more, ◌∙◌, length-append}
+use Rattle.std.proofs.Common.{◌≡◌, ◌<◌, ◌+◌, ◌*◌, ◌/◌, ◌%◌, ◌^◌, ◌==◌, ◌&&◌, ℕ, zero, suc, List, [], ◌∷◌, ◌++◌, length, get_or, Bool, true, false, if◌then◌else◌, arith, refl, ap, sym, subst, below_more, ◌∙◌, length-append}
 use Rattle.std.proofs.Math.Nat.{pow-suc, mul_assoc, add-mul-div_left, div-eq_of_lt}
 use Rattle.std.proofs.lemmas.Nat.{shr-shr, pow-add, pow_pos}
 use Rattle.std.specs.Int.Bits.{bit_xor}

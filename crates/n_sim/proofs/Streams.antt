@@ -8,12 +8,10 @@ use Rattle.std.proofs.lemmas.List.{map-set, map-append, take-map, length-map, ta
 use Rattle.n_cells.specs.declared.netlist.Flop.{Flop}
 use Rattle.std.proofs.lemmas.Nat.Bits.{bit_at_and, bit_at_or, bit_at_xor, bit_at-lt, bit_at_ones, bit_at-zero}
 use Rattle.std.proofs.lemmas.Bool.Decides.{nat_tests}
-use Rattle.lz_base.specs.Bits.{number_of, low_bits, word_of, word_bits, words_bits}
-use Rattle.lz_base.specs.Ports.{FitPorts}
-use Rattle.lz_base.specs.WordValue.{WordValue}
+use Rattle.lz_base.specs.Bits.{number_of, low_bits, word_of, words_bits}
 use Rattle.lz_base.specs.declared.name.Port.{Port}
-use Rattle.n_cells.specs.Netlist.{NetlistValue, FillOutputs, port_bits, AllBelow}
-use Rattle.n_cells.specs.Run.{value_at, index_of, table_bit, majority, shown}
+use Rattle.n_cells.specs.Netlist.{NetlistValue, FillOutputs, port_bits}
+use Rattle.n_cells.specs.Run.{value_at, index_of, majority, shown}
 use Rattle.n_sim.specs.Lanes.{lane, stream}
 use Rattle.n_sim.proofs.Walks.{drop_next}
 use Rattle.n_sim.proofs.Edges.{moving, move_on}

@@ -1,7 +1,6 @@
 -- The walk over the cells of a netlist.
-use Rattle.std.proofs.Common.{◌≡◌, ◌<◌, ◌≤◌, ◌+◌, ◌*◌, ℕ, zero, suc, List, [], ◌∷◌, ◌++◌, length, take, drop, map, get_or, slice_get, Some, Bool, true, false, if◌then◌else◌, arith, refl, ap, sym, ◌∙◌, add-one, drop-cons}
-use Rattle.std.proofs.lemmas.List.{get_or-take, take_all, drop_all}
-use Rattle.std.proofs.lemmas.Grind.{common_steps}
+use Rattle.std.proofs.Common.{◌≡◌, ◌<◌, ◌≤◌, ◌+◌, ◌*◌, ℕ, zero, suc, List, [], ◌∷◌, ◌++◌, length, take, drop, get_or, slice_get, Some, Bool, false, if◌then◌else◌, arith, refl, ap, sym, ◌∙◌, add-one, drop-cons}
+use Rattle.std.proofs.lemmas.List.{get_or-take, take_all}
 use Rattle.n_cells.specs.declared.netlist.Stored.{Stored}
 use Rattle.n_cells.specs.declared.netlist.Stored.TheVariants.{Lut, Carry}
 use Rattle.n_cells.specs.Netlist.{AllBelow, ReadsBelow, ReadBackwards, nets_of, cell_nets}

@@ -1,6 +1,4 @@
 -- A netlist's cells, laid out for evaluation.
-use Rattle.std.specs.Prelude.{◌≡◌, ◌≤◌, ℕ, List, [], ◌∷◌, drop, ⊤}
-use Rattle.n_cells.specs.Leaves.{most_leaves}
 use Rattle.n_cells.specs.declared.netlist.Stored.{Stored}
 use Rattle.n_cells.specs.declared.netlist.Stored.TheVariants as stored
 use Rattle.n_sim.specs.declared.gate.Kind.{Kind}

@@ -1,5 +1,5 @@
 -- What a look-up table shows over words of 64 bits.
-use Rattle.std.specs.Prelude.{◌≡◌, ◌<◌, ◌/◌, ◌%◌, ◌^◌, ℕ, zero, suc, List, [], ◌∷◌, length, map, Bool, if◌then◌else◌, slice_index_or}
+use Rattle.std.specs.Prelude.{◌≡◌, ◌<◌, ◌/◌, ◌%◌, ◌^◌, ℕ, zero, suc, List, [], ◌∷◌, length, slice_index_or}
 use Rattle.std.specs.Int.Bits.{bit_xor}
 use Rattle.lz_base.specs.Bits.{number_of}
 use Rattle.n_cells.specs.Run.{table_bit}

@@ -1,4 +1,4 @@
-use Rattle.std.proofs.Common.{◌≡◌, ◌<◌, ◌≤◌, ◌+◌, ◌∷◌, ◌∙◌, [], length, drop, arith, refl}
+use Rattle.std.proofs.Common.{◌≡◌, ◌<◌, ◌≤◌, ◌+◌, ◌∙◌, [], length, drop, arith, refl}
 use Rattle.std.proofs.lemmas.List.{drop_all}
 use Rattle.n_cells.specs.Netlist.{nets_of}
 use Rattle.n_sim.specs.Gates.{kind_cell}

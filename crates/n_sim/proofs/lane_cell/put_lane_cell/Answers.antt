@@ -1,5 +1,4 @@
-use Rattle.std.proofs.Common.{length, get_or, arith}
-use Rattle.std.specs.Int.Bits.{bit_and, bit_or, bit_xor}
+use Rattle.std.proofs.Common.{length, arith}
 use Rattle.n_sim.proofs.Cells.{below_wider}
 use Rattle.n_sim.proofs.Streams.{put_one, put_two, sum_at, majority_at}
 use Rattle.n_sim.proofs.lane_cell.put_lane_cell.Goals as goal

@@ -1,7 +1,6 @@
-use Rattle.std.proofs.Common.{◌≡◌, ◌<◌, ◌≤◌, ◌+◌, ◌∷◌, ◌∙◌, [], length, drop, arith, refl}
+use Rattle.std.proofs.Common.{◌≡◌, ◌<◌, ◌∙◌, [], length, drop, arith, refl}
 use Rattle.std.proofs.lemmas.List.{drop_all}
 use Rattle.n_sim.specs.Gates.{kind_cell}
-use Rattle.n_sim.specs.Lanes.{stream}
 use Rattle.n_sim.proofs.Streams.{stream_length}
 use Rattle.n_sim.proofs.Walks.{item_next, reach_room, reach_there, reach_on, walk_on, walk_ends}
 use Rattle.n_sim.proofs.lane_cell.put_lane_cells.Goals as goal

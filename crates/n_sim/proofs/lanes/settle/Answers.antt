@@ -1,4 +1,4 @@
-use Rattle.std.proofs.Common.{◌≡◌, ◌∙◌, ◌∷◌, ◌++◌, length, take, ap, sym, arith, true, false}
+use Rattle.std.proofs.Common.{◌≡◌, ◌∙◌, ◌∷◌, ◌++◌, take, ap, sym, arith, true, false}
 use Rattle.lz_base.specs.Bits.{words_bits}
 use Rattle.n_cells.specs.Netlist.{cell_nets, first_net}
 use Rattle.n_cells.specs.Walk.{all_values, walked}

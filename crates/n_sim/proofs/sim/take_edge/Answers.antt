@@ -1,5 +1,5 @@
-use Rattle.std.proofs.Common.{◌≡◌, Bool, sym, ap, ◌∙◌, arith}
-use Rattle.std.proofs.Math.ListN.{set, length-set}
+use Rattle.std.proofs.Common.{Bool, sym, ◌∙◌, arith}
+use Rattle.std.proofs.Math.ListN.{length-set}
 use Rattle.n_sim.proofs.Edges.{move_begins, move_next, move_ends}
 use Rattle.n_sim.proofs.sim.take_edge.Goals as goal
 

@@ -1,4 +1,4 @@
-use Rattle.std.proofs.Common.{◌≡◌, ◌<◌, ◌-◌, ◌+◌, ◌*◌, length, ap, ◌∙◌, arith}
+use Rattle.std.proofs.Common.{◌<◌, ◌-◌, ◌+◌, ◌*◌, length, ap, ◌∙◌, arith}
 use Rattle.n_sim.proofs.Words.{number_fits, number_on, fits_on}
 use Rattle.n_sim.proofs.word.number_at.Goals as goal
 

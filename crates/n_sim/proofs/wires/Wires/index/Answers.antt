@@ -1,4 +1,4 @@
-use Rattle.std.proofs.Common.{◌≡◌, ◌≤◌, ◌∙◌, length, take, ap, sym, subst, arith, length-take}
+use Rattle.std.proofs.Common.{◌≤◌, ◌∙◌, length, take, ap, sym, subst, arith, length-take}
 use Rattle.n_cells.specs.Netlist.{AllBelow}
 use Rattle.n_cells.specs.Run.{index_of}
 use Rattle.n_sim.proofs.Cells.{filled_below, index_filled, index_fits}

@@ -126,7 +126,7 @@ formed_gate n m g e w none one = record {
 }
 
 -- one more flip-flop
-pub formed_flip : (n m : NetworkValue) (f : Flip) → n ≡ m → IsWellFormed n → m.outputs ≡ [] → m.gates ≡ [] → IsSome m.clock → f.literal ≡ 0 → f.enable ≡ 1
+pub formed_flip : (n m : NetworkValue) (f : Flip) → n ≡ m → IsWellFormed n → m.outputs ≡ [] → m.gates ≡ [] → IsSome m.clock → f.literal / 2 ≡ 0 → f.enable / 2 ≡ 0
     → IsWellFormed (record n { flips = n.flips ++ f ∷ [] })
 formed_flip n m f e w none no_gate clocked literal enable =
     let longer : length (n.flips ++ f ∷ []) ≡ length n.flips + 1 = grind (arith, common_steps) in

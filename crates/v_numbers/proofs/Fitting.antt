@@ -296,7 +296,7 @@ fit_letter width base signed space (first ∷ xs) low high white h = by_base (is
 base_no_sign : (base : ℕ) → is_base base ≡ true → (base == 115 || base == 83) ≡ false
 base_no_sign base h = grind (arith, nat_tests)
 
-pub fit_based : (width : ℕ) (bytes : List ℕ) → 1 ≤ width → width ≤ 128 → IsBased bytes → IsFit (based_literal width bytes)
+fit_based : (width : ℕ) (bytes : List ℕ) → 1 ≤ width → width ≤ 128 → IsBased bytes → IsFit (based_literal width bytes)
 fit_based width bytes low high f = subst (λ (bs : List ℕ). IsFit (based_literal width bs)) (sym (f.spelled ∙ append_assoc (39 ∷ f.sign) (f.base ∷ f.space) f.digits)) (by_sign f.sign f.has_sign)
   where
     by_sign : (sign : List ℕ) → is_sign sign ≡ true → IsFit (behind_mark width (sign ++ (f.base ∷ (f.space ++ f.digits))))
@@ -319,3 +319,7 @@ fit_plain (first ∷ xs) h =
 pub fit_plain_made : (l : Literal) (bytes all : List ℕ) → l ≡ literal 32 true 100 (digits_in bytes) → bytes ≡ all → is_plain all ≡ true → IsFit l
 fit_plain_made l bytes all e same h =
     subst (λ (k : Literal). IsFit k) (sym (e ∙ ap (λ (b : List ℕ). literal 32 true 100 (digits_in b)) same)) (fit_plain all h)
+
+pub fit_based_made : (l : Literal) (width : ℕ) (bytes all : List ℕ) → l ≡ based_literal width bytes → bytes ≡ all → 1 ≤ width → width ≤ 128 → IsBased all → IsFit l
+fit_based_made l width bytes all e same low high form =
+    subst (λ (k : Literal). IsFit k) (sym (e ∙ ap (based_literal width) same)) (fit_based width all low high form)

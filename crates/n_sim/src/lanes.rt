@@ -1,4 +1,4 @@
-ghost use Rattle.std.specs.Prelude.{◌≡◌, ◌+◌, ◌<◌, ◌≤◌, ◌++◌, ℕ, List, length, take, map, IfOk, slice_index_or, if◌then◌else◌, ◌^◌, ◌-◌};
+ghost use Rattle.std.specs.Prelude.{◌≡◌, ◌+◌, ◌<◌, ◌≤◌, ◌++◌, ℕ, List, length, take, map, IfOk, OnOk, slice_index_or, if◌then◌else◌, ◌^◌, ◌-◌};
 ghost use Rattle.lz_base.specs.Bits.{words_bits};
 ghost use Rattle.lz_base.specs.Ports.{FitPorts};
 ghost use Rattle.lz_base.specs.WordValue.{WordValue};
@@ -43,6 +43,7 @@ impl<'a> Lanes<'a> {
     /// A simulator whose flip-flops have their first bits in every stream. It reserves all that its cycles use. A
     /// netlist of 2^32 nets or more finds no room.
     pub fn new(alloc: Global, netlist: &'a Netlist) -> Result<Lanes<'a>, OutOfMemory>
+        ensures formed { OnOk result (IsWellFormed netlist.now) }
         ensures netlist { IfOk result (λ l. l.netlist ≡ netlist.now) }
         ensures state { IfOk result (λ l. (j : ℕ) → j < 64 → stream j l.state ≡ first_state netlist.now) }
     {

@@ -112,8 +112,6 @@ pub fn simulate_lanes(
     requires fit { CyclesFit (widths_of netlist.now.inputs) stimulus.now.cycles }
     ensures { IfOk result (λ t. RunsInTurn netlist.now count stimulus.now.cycles t.cycles) }
 {
-    // A netlist is well formed, as its reader says.
-    let _name = netlist.name();
     let mut streams = Streams {
         lanes: Lanes::new(alloc, netlist)?,
         input: room(alloc, netlist.inputs())?,

@@ -1,0 +1,13 @@
+use Rattle.std.proofs.Common.{◌≡◌, length}
+use Rattle.v_core.specs.Bodies.{fixed_links, link_bodies}
+use Rattle.v_core.proofs.BodyLaws.{part_fixed}
+use Rattle.v_core.proofs.fixing.+fixing.Given as goal
+
+-- the operands that are left, and behind them those that are fixed
+abbrev pub invariant-fix_links-loop-operator : goal.invariant-fix_links-loop-operator
+invariant-fix_links-loop-operator l =
+    goal.no_deeper-fix_links-loop-operator l
+    × (part_fixed l.left l.fixed.items l.width l.signed ≡ fixed_links (link_bodies l.initial.left) l.width l.signed)
+
+abbrev pub decreases-fix_links-loop-operator : goal.decreases-fix_links-loop-operator
+decreases-fix_links-loop-operator l = length l.left

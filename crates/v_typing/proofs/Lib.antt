@@ -1,0 +1,5 @@
+pub mod Variants
+pub mod FitLaws
+pub mod Turns
+pub mod OperatorLaws
+pub mod LeafLaws

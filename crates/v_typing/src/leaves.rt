@@ -1,0 +1,136 @@
+ghost use Rattle.std.specs.Prelude.{◌≡◌, ◌&&◌, if◌then◌else◌, slice_index, IfOk};
+ghost use Rattle.v_meaning.specs.Literals.{literal_value};
+ghost use Rattle.v_meaning.specs.Names.{read, selected, entry_of, word_of};
+ghost use Rattle.v_meaning.specs.Expressions.{number_sense, open_at};
+ghost use Rattle.v_core.specs.Values.{typed_value, entry_at, selected_value, index_in};
+ghost use Rattle.v_core.specs.Bodies.{sense_in};
+ghost use Rattle.v_typing.specs.Meanings.{is_memory};
+
+use crate::operators::{leaf, own};
+use lz_base::{Boxed, OutOfMemory};
+use std::alloc::Global;
+use v_core::{Open, Typed};
+use v_meaning::{Kind, Literal};
+use v_names::{Names, Sites};
+use v_syntax::Ident;
+
+// The word of a name.
+fn word(name: u32, at: u64) -> Typed
+    ensures { typed_value result ≡ (λ names v. word_of (entry_at names name).kind v) }
+{
+    Typed::Name { name, at }
+}
+
+/// A name by itself (IEEE Std 1364-2005, 4.2).
+pub fn name(names: &Names, ident: &Ident) -> Open
+    ensures { sense_in result names.now ≡ read (entry_of names.now ident.now.name) }
+{
+    let known = names.known(&ident.name);
+    let word = word(known.number, ident.at);
+    leaf(known.width, known.signed, word)
+}
+
+// Whether a name is a memory.
+fn is_memory(kind: Kind) -> bool
+    ensures { result ≡ is_memory kind }
+{
+    matches!(kind, Kind::Memory(..))
+}
+
+// The width of what is selected from a name of this kind and width.
+fn select_width(kind: Kind, width: u32) -> u32
+    ensures { result ≡ (if is_memory kind then width else 1) }
+{
+    if is_memory(kind) { width } else { 1 }
+}
+
+// Its sign.
+fn select_sign(kind: Kind, signed: bool) -> bool
+    ensures { result ≡ (is_memory kind && signed) }
+{
+    is_memory(kind) && signed
+}
+
+// A bit of a vector or a word of a memory.
+fn select(
+    alloc: Global,
+    name: u32,
+    at: u64,
+    site: u32,
+    width: u32,
+    signed: bool,
+    index: Typed,
+) -> Result<Typed, OutOfMemory>
+    ensures { IfOk result (λ t. typed_value t ≡ (λ names v. selected_value (entry_at names name).kind (entry_at names name) (index_in width signed (typed_value index names v)) (slice_index v.sites site) v)) }
+{
+    Ok(Typed::Select {
+        name,
+        at,
+        site,
+        width,
+        signed,
+        index: Boxed::new(alloc, index)?,
+    })
+}
+
+/// A bit of a vector, or a word of a memory; the bits of the site where the index is out of range (5.2.1 and 5.2.2).
+pub fn selected(
+    alloc: Global,
+    names: &Names,
+    sites: &Sites,
+    ident: &Ident,
+    index: Open,
+) -> Result<Open, OutOfMemory>
+    ensures { IfOk result (λ o. sense_in o names.now ≡ selected (entry_of names.now ident.now.name) (sense_in index names.now) (open_at sites.now ident.now.at)) }
+{
+    let known = names.known(&ident.name);
+    let site = sites.number_of(ident.at);
+    let index_width = index.width;
+    let index_signed = index.signed;
+    let x = own(alloc, index)?;
+    let t = select(
+        alloc,
+        known.number,
+        ident.at,
+        site,
+        index_width,
+        index_signed,
+        x,
+    )?;
+    let width = select_width(known.kind, known.width);
+    let signed = select_sign(known.kind, known.signed);
+    Ok(leaf(width, signed, t))
+}
+
+// A word of this width and value.
+fn constant(width: u32, value: u128) -> Typed
+    ensures { typed_value result ≡ (λ names v. value) }
+{
+    Typed::Constant(width, value)
+}
+
+// A number whose x bits are those of a site.
+fn open_number(literal: Literal, site: u32) -> Typed
+    ensures { typed_value result ≡ (λ names v. literal_value literal (slice_index v.sites site)) }
+{
+    Typed::Number(literal, site)
+}
+
+// The word of a number.
+fn number_word(sites: &Sites, at: u64, literal: Literal) -> Typed
+    ensures { typed_value result ≡ (λ names v. literal_value literal (open_at sites.now at v)) }
+{
+    if literal.unknown == 0 {
+        constant(literal.width, literal.ones)
+    } else {
+        open_number(literal, sites.number_of(at))
+    }
+}
+
+/// A number, whose bits that are x are those of its site (3.5.1).
+pub fn number(sites: &Sites, at: u64, literal: Literal) -> Open
+    ensures { sense_in result ≡ (λ names. number_sense literal (open_at sites.now at)) }
+{
+    let word = number_word(sites, at, literal);
+    leaf(literal.width, literal.signed, word)
+}

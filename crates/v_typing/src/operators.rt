@@ -1,0 +1,164 @@
+ghost use Rattle.std.specs.Prelude.{◌≡◌, ◌&&◌, max, IfOk};
+ghost use Rattle.v_meaning.specs.Senses.{own, leaf, by_class, Shared, Compared, Shifted, Logical, operated, prefixed, chosen, recast};
+ghost use Rattle.v_core.specs.Values.{typed_value};
+ghost use Rattle.v_core.specs.Bodies.{body_value, sense_in};
+
+use crate::classes::{Class, class_of, is_signed, is_through};
+use lz_base::{Boxed, OutOfMemory};
+use std::alloc::Global;
+use v_core::{Body, Link, Open, Typed, body_linked, fix, fix_before, linked};
+use v_syntax::{BinaryOperator, Cast, UnaryOperator};
+
+/// The expression at its own width and sign. `OutOfMemory` is the only other answer, here and below.
+pub fn own(alloc: Global, x: Open) -> Result<Typed, OutOfMemory>
+    ensures { IfOk result (λ t. typed_value t ≡ (λ names. own (sense_in x names))) }
+{
+    fix(alloc, x.body, x.width, x.signed)
+}
+
+/// What has this width and sign, and no operands that take the final ones.
+pub fn leaf(width: u32, signed: bool, x: Typed) -> Open
+    ensures { sense_in result ≡ (λ names. leaf width signed (typed_value x names)) }
+{
+    Open {
+        width,
+        signed,
+        body: Body::Leaf(width, x),
+    }
+}
+
+// What determines itself, as an operand of a chain.
+fn itself(x: Typed) -> Body
+    ensures { body_value result ≡ (λ width signed. typed_value x) }
+{
+    Body::Own(x)
+}
+
+fn shared(alloc: Global, operator: BinaryOperator, x: Open, y: Open) -> Result<Open, OutOfMemory>
+    ensures { IfOk result (λ o. sense_in o ≡ (λ names. by_class Shared operator (sense_in x names) (sense_in y names))) }
+{
+    let width = x.width.max(y.width);
+    let signed = x.signed && y.signed;
+    let body = body_linked(alloc, operator, x.body, y.body)?;
+    Ok(Open {
+        width,
+        signed,
+        body,
+    })
+}
+
+// The greater of two widths.
+fn joint_width(x: u32, y: u32) -> u32
+    ensures { result ≡ max x y }
+{
+    x.max(y)
+}
+
+// Signed where both are.
+fn joint_sign(x: bool, y: bool) -> bool
+    ensures { result ≡ (x && y) }
+{
+    x && y
+}
+
+fn compared(alloc: Global, operator: BinaryOperator, x: Open, y: Open) -> Result<Open, OutOfMemory>
+    ensures { IfOk result (λ o. sense_in o ≡ (λ names. by_class Compared operator (sense_in x names) (sense_in y names))) }
+{
+    let width = joint_width(x.width, y.width);
+    let signed = joint_sign(x.signed, y.signed);
+    let left = fix_before(alloc, x.body, width, signed)?;
+    let right = fix(alloc, y.body, width, signed)?;
+    let link = Link {
+        operator,
+        width,
+        signed,
+    };
+    let t = linked(alloc, left, link, right)?;
+    Ok(leaf(1, false, t))
+}
+
+fn shifted(alloc: Global, operator: BinaryOperator, x: Open, y: Open) -> Result<Open, OutOfMemory>
+    ensures { IfOk result (λ o. sense_in o ≡ (λ names. by_class Shifted operator (sense_in x names) (sense_in y names))) }
+{
+    let by = own(alloc, y)?;
+    let body = body_linked(alloc, operator, x.body, itself(by))?;
+    Ok(Open {
+        width: x.width,
+        signed: x.signed,
+        body,
+    })
+}
+
+fn logical(alloc: Global, operator: BinaryOperator, x: Open, y: Open) -> Result<Open, OutOfMemory>
+    ensures { IfOk result (λ o. sense_in o ≡ (λ names. by_class Logical operator (sense_in x names) (sense_in y names))) }
+{
+    let left = fix_before(alloc, x.body, x.width, x.signed)?;
+    let right = own(alloc, y)?;
+    let link = Link {
+        operator,
+        width: 1,
+        signed: false,
+    };
+    let t = linked(alloc, left, link, right)?;
+    Ok(leaf(1, false, t))
+}
+
+/// An operator between two operands (IEEE Std 1364-2005, 5.1).
+pub fn operated(
+    alloc: Global,
+    operator: BinaryOperator,
+    x: Open,
+    y: Open,
+) -> Result<Open, OutOfMemory>
+    ensures { IfOk result (λ o. sense_in o ≡ (λ names. operated operator (sense_in x names) (sense_in y names))) }
+{
+    match class_of(operator) {
+        Class::Shared => shared(alloc, operator, x, y),
+        Class::Compared => compared(alloc, operator, x, y),
+        Class::Shifted => shifted(alloc, operator, x, y),
+        Class::Logical => logical(alloc, operator, x, y),
+    }
+}
+
+/// An operator before an operand.
+pub fn prefixed(alloc: Global, operator: UnaryOperator, x: Open) -> Result<Open, OutOfMemory>
+    ensures { IfOk result (λ o. sense_in o ≡ (λ names. prefixed operator (sense_in x names))) }
+{
+    let width = x.width;
+    if is_through(operator) {
+        let body = Body::Unary(operator, Boxed::new(alloc, x.body)?);
+        return Ok(Open {
+            width,
+            signed: x.signed,
+            body,
+        });
+    }
+    let operand = own(alloc, x)?;
+    let t = v_core::prefixed(alloc, operator, width, operand)?;
+    Ok(leaf(1, false, t))
+}
+
+/// `c ? x : y` (5.1.13)
+pub fn chosen(alloc: Global, c: Open, x: Open, y: Open) -> Result<Open, OutOfMemory>
+    ensures { IfOk result (λ o. sense_in o ≡ (λ names. chosen (sense_in c names) (sense_in x names) (sense_in y names))) }
+{
+    let condition = own(alloc, c)?;
+    let width = x.width.max(y.width);
+    let signed = x.signed && y.signed;
+    let x = Boxed::new(alloc, x.body)?;
+    let y = Boxed::new(alloc, y.body)?;
+    Ok(Open {
+        width,
+        signed,
+        body: Body::Choice(condition, x, y),
+    })
+}
+
+/// `$signed` and `$unsigned` (5.5)
+pub fn recast(alloc: Global, sign: Cast, x: Open) -> Result<Open, OutOfMemory>
+    ensures { IfOk result (λ o. sense_in o ≡ (λ names. recast sign (sense_in x names))) }
+{
+    let width = x.width;
+    let t = own(alloc, x)?;
+    Ok(leaf(width, is_signed(sign), t))
+}

@@ -134,3 +134,13 @@ unfit_part names sites n bracket msb_at msb lsb_at lsb =
 pub unfit_replicate : (names : List Entry) (sites : List ℕ) (brace at : ℕ) (count : Expr) (inner : ℕ) (parts : List Expr) → is_fit names sites (e.Replicate brace at count inner parts) ≡ false
 unfit_replicate names sites brace at count inner parts =
     ap (is_fit names sites) (sym (e.rolls-Replicate brace at count inner parts)) ∙ para-roll-Expr Bool (fit_step names sites) (o.Replicate brace at count inner parts)
+
+pub no_part : (names : List Entry) (sites : List ℕ) (x : Expr) (n : Ident) (bracket msb_at : ℕ) (msb : Expr) (lsb_at : ℕ) (lsb : Expr) →
+    x ≡ e.Part n bracket msb_at msb lsb_at lsb → is_fit names sites x ≡ true → ⊥
+no_part names sites x n bracket msb_at msb lsb_at lsb is h =
+    let both : true ≡ false = sym h ∙ ap (is_fit names sites) is ∙ unfit_part names sites n bracket msb_at msb lsb_at lsb in cc both
+
+pub no_replicate : (names : List Entry) (sites : List ℕ) (x : Expr) (brace at : ℕ) (count : Expr) (inner : ℕ) (parts : List Expr) →
+    x ≡ e.Replicate brace at count inner parts → is_fit names sites x ≡ true → ⊥
+no_replicate names sites x brace at count inner parts is h =
+    let both : true ≡ false = sym h ∙ ap (is_fit names sites) is ∙ unfit_replicate names sites brace at count inner parts in cc both

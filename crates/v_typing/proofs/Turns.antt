@@ -3,6 +3,7 @@ use Rattle.std.proofs.Common.{◌≡◌, ◌<◌, ◌≤◌, ◌+◌, ◌*◌, a
 use Rattle.std.specs.Prelude.{◌^◌, nat_le, if◌then◌else◌}
 use Rattle.std.proofs.Math.Path.{fun_ext}
 use Rattle.std.proofs.lemmas.Bool.{leb-true}
+use Rattle.std.proofs.lemmas.List.{drop_all}
 use Rattle.v_syntax.specs.declared.expr.Expr.{Expr}
 use Rattle.v_syntax.specs.declared.expr.BinaryOperator.{BinaryOperator}
 use Rattle.v_meaning.specs.Views.{View}
@@ -10,6 +11,8 @@ use Rattle.v_meaning.specs.Senses.{Sense, own, leaf, beside, joined_behind, oper
 use Rattle.v_meaning.specs.declared.names.Entry.{Entry}
 use Rattle.v_meaning.specs.Expressions.{sense_of}
 use Rattle.v_core.specs.declared.typed.Typed.{Typed}
+use Rattle.v_core.specs.declared.open.Open.{Open}
+use Rattle.v_core.specs.Bodies.{sense_in}
 use Rattle.v_core.specs.Values.{Value, typed_value, concat_value, part_values}
 use Rattle.v_typing.specs.Meanings.{meanings, link_meanings}
 use Rattle.v_typing.specs.Fit.{is_fit, are_fit, links_fit}
@@ -102,3 +105,10 @@ room names sites parts i x width typed s whole h is p before fit =
     let own_width : s.width ≡ (sense_of names sites x).width = ap (λ (z : Sense). z.width) p in
     let small : whole.width ≤ 128 = leb-true whole.width 128 fit in
     omega (arith, grows, same, own_width, small)
+
+pub joined_done : (names : List Entry) (sites : List ℕ) (parts : List Expr) (i width : ℕ) (typed : List (ℕ × Typed)) (o : Open) (t : Typed) (whole : Sense) →
+    length parts ≤ i → sense_in o ≡ (λ names. leaf width false (typed_value t names)) → typed_value t ≡ concat_value 0 (part_values typed) →
+    joined_behind (leaf_of width typed names) (meanings names sites (drop i parts)) ≡ whole → sense_in o names ≡ whole
+joined_done names sites parts i width typed o t whole h is p before =
+    ap (λ (f : List Entry → Sense). f names) is ∙ ap (λ (f : Value). leaf width false (f names)) p
+    ∙ sym (ap (λ (xs : List Expr). joined_behind (leaf_of width typed names) (meanings names sites xs)) (drop_all i parts h)) ∙ before

@@ -1,0 +1,109 @@
+ghost use Rattle.std.specs.Prelude.{◌≡◌, ◌+◌, ◌≤◌, IfOk, true, nat_le};
+ghost use Rattle.v_meaning.specs.Senses.{chained, joined};
+ghost use Rattle.v_meaning.specs.Expressions.{sense_of};
+ghost use Rattle.v_core.specs.Bodies.{sense_in};
+ghost use Rattle.v_typing.specs.Meanings.{meanings, link_meanings};
+ghost use Rattle.v_typing.specs.Fit.{is_fit, are_fit, links_fit};
+
+use crate::leaves::{name, number, selected};
+use crate::operators::{chosen, leaf, operated, own, prefixed, recast};
+use lz_base::{Items, OutOfMemory};
+use std::alloc::Global;
+use v_core::{Open, side_by_side};
+use v_names::{Names, Sites};
+use v_numbers::literal;
+use v_syntax::{BinaryOperator, Expr};
+
+/// The expression with its own width and sign, and what it is at each final width and sign (IEEE Std 1364-2005, 5.4 and
+/// 5.5). Its numbers have their form and its concatenations at most 128 bits, and it holds neither parts of vectors nor
+/// replications, which can't be opened yet. Each node is visited once. `OutOfMemory` is the only other answer.
+#[cycle(opening)]
+pub fn opened(alloc: Global, names: &Names, sites: &Sites, x: &Expr) -> Result<Open, OutOfMemory>
+    requires fit { is_fit names.now sites.now x.now ≡ true }
+    ensures { IfOk result (λ o. sense_in o names.now ≡ sense_of names.now sites.now x.now) }
+{
+    match x {
+        Expr::Number(n) => Ok(number(sites, n.at, literal(&n.spelling))),
+        Expr::Name(ident) => Ok(name(names, ident)),
+        Expr::Select { name, index, .. } => {
+            let index = opened(alloc, names, sites, index.get())?;
+            let o = selected(alloc, names, sites, name, index)?;
+            Ok(o)
+        }
+        Expr::Unary(operator, x) => {
+            let x = opened(alloc, names, sites, x.get())?;
+            let o = prefixed(alloc, *operator, x)?;
+            Ok(o)
+        }
+        Expr::Chain(first, links) => {
+            let first = opened(alloc, names, sites, first.get())?;
+            let o = chained(alloc, names, sites, first, links.as_slice())?;
+            Ok(o)
+        }
+        Expr::Conditional(c, x, y) => {
+            let c = opened(alloc, names, sites, c.get())?;
+            let x = opened(alloc, names, sites, x.get())?;
+            let y = opened(alloc, names, sites, y.get())?;
+            let o = chosen(alloc, c, x, y)?;
+            Ok(o)
+        }
+        Expr::Concat { parts, .. } => {
+            let o = joined(alloc, names, sites, parts.as_slice())?;
+            Ok(o)
+        }
+        Expr::Cast(sign, x) => {
+            let x = opened(alloc, names, sites, x.get())?;
+            let o = recast(alloc, *sign, x)?;
+            Ok(o)
+        }
+        Expr::Part { .. } => unreachable!(),
+        Expr::Replicate { .. } => unreachable!(),
+    }
+}
+
+// A chain behind its first operand, from the left.
+#[cycle(opening)]
+fn chained(
+    alloc: Global,
+    names: &Names,
+    sites: &Sites,
+    first: Open,
+    links: &[(BinaryOperator, Expr)],
+) -> Result<Open, OutOfMemory>
+    requires fit { links_fit names.now sites.now links.now ≡ true }
+    ensures { IfOk result (λ o. sense_in o names.now ≡ chained (sense_in first names.now) (link_meanings names.now sites.now links.now)) }
+{
+    let mut all = first;
+    for (operator, x) in links {
+        let y = opened(alloc, names, sites, x)?;
+        all = operated(alloc, *operator, all, y)?;
+    }
+    Ok(all)
+}
+
+// A width with more bits.
+fn wider(width: u32, more: u32) -> u32
+    requires { width + more ≤ 128 }
+    ensures { result ≡ width + more }
+{
+    width + more
+}
+
+// Operands side by side.
+#[cycle(opening)]
+fn joined(alloc: Global, names: &Names, sites: &Sites, parts: &[Expr]) -> Result<Open, OutOfMemory>
+    requires fit { are_fit names.now sites.now parts.now ≡ true }
+    requires narrow { nat_le (joined (meanings names.now sites.now parts.now)).width 128 ≡ true }
+    ensures { IfOk result (λ o. sense_in o names.now ≡ joined (meanings names.now sites.now parts.now)) }
+{
+    let mut width = 0u32;
+    let mut typed = Items::new(alloc);
+    for x in parts {
+        let one = opened(alloc, names, sites, x)?;
+        let one_width = one.width;
+        let t = own(alloc, one)?;
+        typed.push((one_width, t))?;
+        width = wider(width, one_width);
+    }
+    Ok(leaf(width, false, side_by_side(typed)))
+}

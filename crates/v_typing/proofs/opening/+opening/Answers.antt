@@ -15,7 +15,7 @@ pub opened-literal-requires : goal.opened-literal-requires
 opened-literal-requires t c = fit_number c.args.names.now c.args.sites.now c.args.x.now _ c.in-Number.is c.requires.fit
 
 pub opened-returns-in-Number : goal.opened-returns-in-Number
-opened-returns-in-Number t c = ap (λ (f : Meaning). f c.args.names.now) c.number.ensures ∙ ap (λ (l : Literal). number_sense l (open_at c.args.sites.now c.in-Number.n.at)) c.literal.ensures ∙ when_number c.args.names.now c.args.sites.now c.args.x.now _ c.in-Number.is
+opened-returns-in-Number t c = ap (λ (f : Meaning). f c.args.names.now) c.number.ensures ∙ ap (λ (l : Literal). number_sense l (open_at c.args.sites.now c.in-Number.n.at)) c.literal.ensures.value ∙ when_number c.args.names.now c.args.sites.now c.args.x.now _ c.in-Number.is
 
 pub opened-returns-in-Name : goal.opened-returns-in-Name
 opened-returns-in-Name t c = c.name.ensures ∙ when_name c.args.names.now c.args.sites.now c.args.x.now _ c.in-Name.is

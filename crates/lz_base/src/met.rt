@@ -20,6 +20,13 @@ pub fn meet<'a>(met: &mut BTreeSet<&'a [u8]>, name: &'a [u8]) -> Result<bool, Ou
     Ok(met.insert(name)?)
 }
 
+/// Whether a name is one of those that were met.
+pub fn is_met<'a>(met: &BTreeSet<&'a [u8]>, name: &'a [u8]) -> bool
+    ensures { (names : List (List ℕ)) → Met met.now names → result ≡ is_among name.now names }
+{
+    met.contains(name)
+}
+
 /// Whether a name is one of several is what the test says.
 pub fn is_among_decides()
     ensures { (name : List ℕ) (names : List (List ℕ)) → IsTrue (is_among name names) ↔ IsAmong name names }

@@ -1,6 +1,7 @@
 ghost use Rattle.std.specs.Prelude.{◌≡◌, ◌≤◌, ◌<◌, ◌^◌, ◌-◌, ◌%◌, ◌↔◌, IsTrue};
 ghost use Rattle.lz_base.specs.Bits.{bit_of, resized};
 
+use crate::masks::{cut, mask};
 use std::marker::Model;
 
 /// A word: a width from 1 to 128 bits, and a value below 2^width. Bit 0 is the least.
@@ -71,28 +72,4 @@ fn resized(word: &Word, width: u32, signed: bool) -> u128
     } else {
         word.value
     }
-}
-
-// The greatest value of a width, all bits 1.
-#[tactic(auto, using(crate::proofs::Powers::power_fits))]
-fn mask(width: u32) -> u128
-    requires low { 1 ≤ width }
-    requires high { width ≤ 128 }
-    ensures { result ≡ 2 ^ width - 1 }
-{
-    if width == 128 {
-        u128::MAX
-    } else {
-        (1 << width) - 1
-    }
-}
-
-// The low bits of a value.
-#[tactic(auto, using(std::proofs::lemmas::Nat::and_mask))]
-fn cut(value: u128, width: u32) -> u128
-    requires low { 1 ≤ width }
-    requires high { width ≤ 128 }
-    ensures { result ≡ value % 2 ^ width }
-{
-    value & mask(width)
 }

@@ -9,7 +9,9 @@ use Rattle.v_syntax.specs.declared.expr.Range.{Range}
 use Rattle.v_meaning.specs.Senses.{constant}
 use Rattle.v_meaning.specs.Expressions.{sense_of, constant_step, is_constant, number_at_top, number_by_itself}
 use Rattle.v_meaning.specs.MarkRules.{place_if}
-use Rattle.v_meaning.specs.ConstantRules.{sound_step, is_sound, value_fault, is_vector_range, range_faults, is_between_1_and_128}
+use Rattle.v_meaning.specs.Literals.{is_wrong_number}
+use Rattle.v_meaning.specs.Proper.{sound_step, is_sound, is_between_1_and_128}
+use Rattle.v_meaning.specs.ConstantRules.{value_fault, is_vector_range, range_faults}
 use Rattle.v_meaning.proofs.Variants.{fold_number, fold_name, fold_unary, para_number}
 
 abbrev later : Ident
@@ -25,11 +27,12 @@ no_parameter = fold_name (constant_step []) later
 later_fault : value_fault [] (record { at = 26; expr = e.Name later }) ≡ 26 ∷ []
 later_fault = ap (λ (c : Bool). place_if (not (c && is_sound [] (e.Name later))) 26) no_parameter
 
--- a number is proper
-number_fault : (n : Number) → is_constant [] (e.Number n) ≡ true → value_fault [] (record { at = 21; expr = e.Number n }) ≡ []
-number_fault n is =
+-- a number that has its form is proper
+number_fault : (n : Number) → is_constant [] (e.Number n) ≡ true → is_wrong_number n.spelling ≡ false → value_fault [] (record { at = 21; expr = e.Number n }) ≡ []
+number_fault n is right =
     ap (λ (c : Bool). place_if (not (c && is_sound [] (e.Number n))) 21) is
     ∙ ap (λ (c : Bool). place_if (not c) 21) (para_number (sound_step []) n)
+    ∙ ap (λ (c : Bool). place_if (not (not c)) 21) right
 
 -- [0:a]: the bounds come before the range itself, whose bracket stands before them
 abbrev range : Range
@@ -38,7 +41,7 @@ range = record { bracket = 20; msb = record { at = 21; expr = e.Number (plain (c
 bounds_first : take 1 (range_faults is_vector_range [] range) ≡ 26 ∷ []
 bounds_first =
     ap (λ (places : List ℕ). take 1 (places ++ value_fault [] range.lsb ++ place_if (not (is_vector_range (constant (sense_of [] [] range.msb.expr)) (constant (sense_of [] [] range.lsb.expr)))) 20))
-    (number_fault (plain (codes "0")) (fold_number (constant_step []) (plain (codes "0"))))
+    (number_fault (plain (codes "0")) (fold_number (constant_step []) (plain (codes "0"))) refl)
     ∙ ap (λ (places : List ℕ). take 1 (places ++ place_if (not (is_vector_range (constant (sense_of [] [] range.msb.expr)) (constant (sense_of [] [] range.lsb.expr)))) 20)) later_fault
 
 -- -1 is no number by itself, so it may be a part

@@ -8,8 +8,10 @@ use Rattle.v_syntax.specs.declared.module.Event.TheVariants.{Posedge, Any}
 use Rattle.v_meaning.specs.declared.names.Kind.{Kind}
 use Rattle.v_meaning.specs.declared.names.Entry.{Entry}
 use Rattle.v_meaning.specs.declared.names.Kind.TheVariants as k
+use Rattle.v_meaning.specs.Literals.{is_wrong_number}
 use Rattle.v_meaning.specs.Marks.{Declares, Valued, Used, Bare, Indexed, Digits, Joined}
-use Rattle.v_meaning.specs.MarkRules.{declared_twice, used_early, is_wrong_number, is_wrong_form, is_part, too_wide, wrong_z}
+use Rattle.v_meaning.specs.MarkRules.{declared_twice, used_early, is_wrong_form, too_wide, wrong_z}
+use Rattle.v_meaning.specs.Proper.{is_part}
 use Rattle.v_meaning.specs.ConstantRules.{is_vector_range, is_address_range}
 use Rattle.v_meaning.specs.Uses.{Access, Read, Write, StmtUse, ProcessUse, Uses, then_use, branches_use, one_path, covers}
 use Rattle.v_meaning.specs.ProcessRules.{wrong_clock, written_again, mixed_kinds, writes_of_process, read_elsewhere, wrong_assigns, circular, read_through, latching, read_early}
@@ -144,8 +146,14 @@ bounds_ascend = refl
 negative_bound : is_part (entry (codes "a") (k.Input 0) 4) None (Some 0) ≡ false
 negative_bound = refl
 
-too_many_bits : too_wide (Joined 129 74) ≡ 74 ∷ []
+too_many_bits : too_wide (Joined (Some 129) 74) ≡ 74 ∷ []
 too_many_bits = refl
+
+no_width : too_wide (Joined None 74) ≡ 74 ∷ []
+no_width = refl
+
+as_wide_as_can_be : too_wide (Joined (Some 128) 74) ≡ []
+as_wide_as_can_be = refl
 
 z_in_item : wrong_z (Digits true (record { at = 64; spelling = s.Sized (codes "1") (codes "'bz") })) ≡ []
 z_in_item = refl

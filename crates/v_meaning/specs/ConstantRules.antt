@@ -1,12 +1,11 @@
 -- E7: a parameter value, initialiser, range, replication count or bound that has no proper value (1364-2005, 4.3, 4.9,
--- 4.10.1, 5.2.1 and 5.1.14). The constant expressions and ranges are walked in text order up to the first fault.
-use Rattle.std.specs.Prelude.{ℕ, ◌*◌, List, [], ◌∷◌, ◌++◌, map, flat_map, take, Bool, true, false, not, ◌&&◌, nat_le, min, max, Option, None, Some}
-use Rattle.std.specs.List.{list_all}
+-- 4.10.1, 5.2.1 and 5.1.14). The constant expressions and ranges are walked in text order up to the first fault, each over
+-- the names that are declared before it: a use of a later parameter breaks an earlier rule.
+use Rattle.std.specs.Prelude.{ℕ, List, [], ◌∷◌, ◌++◌, flat_map, take, Bool, false, not, ◌&&◌, nat_le, min, max, Option, None, Some}
 use Rattle.v_syntax.specs.declared.expr.Expr.{Expr}
 use Rattle.v_syntax.specs.declared.expr.Expr.TheOpen.{Expr-F}
 use Rattle.v_syntax.specs.declared.expr.Expr.TheOpen as o
 use Rattle.v_syntax.specs.declared.expr.Expr.TheFolds.{para-Expr}
-use Rattle.v_syntax.specs.declared.expr.Number.{Number}
 use Rattle.v_syntax.specs.declared.expr.Placed.{Placed}
 use Rattle.v_syntax.specs.declared.expr.Range.{Range}
 use Rattle.v_syntax.specs.declared.expr.BinaryOperator.{BinaryOperator}
@@ -27,64 +26,12 @@ use Rattle.v_syntax.specs.declared.module.PortGroup.{PortGroup}
 use Rattle.v_syntax.specs.declared.module.Item.{Item}
 use Rattle.v_syntax.specs.declared.module.Item.TheVariants as i
 use Rattle.v_syntax.specs.declared.module.Module.{Module}
-use Rattle.v_meaning.specs.Literals.{is_unsized}
 use Rattle.v_meaning.specs.declared.names.Entry.{Entry}
-use Rattle.v_meaning.specs.Names.{or_zero, span}
-use Rattle.v_meaning.specs.Expressions.{is_constant, number_by_itself}
+use Rattle.v_meaning.specs.Names.{span}
 use Rattle.v_meaning.specs.Statements.{label_items}
-use Rattle.v_meaning.specs.Declarations.{joined_lists, constant_value, Roles, roles_of, parameter_entry, behind_parameters, behind_ports, behind_item, names_of}
-use Rattle.v_meaning.specs.Marks.{all_width}
+use Rattle.v_meaning.specs.Declarations.{joined_lists, constant_value, Roles, roles_of, parameter_entry, behind_parameters, behind_ports, behind_item}
+use Rattle.v_meaning.specs.Proper.{is_proper, is_count}
 use Rattle.v_meaning.specs.MarkRules.{place_if}
-
--- ---- proper constant expressions
-
-abbrev pub is_between_1_and_128 : Option ℕ → Bool
-is_between_1_and_128 None = false
-is_between_1_and_128 (Some n) = nat_le 1 n && nat_le n 128
-
--- an operand beside whether it is sound
-abbrev pub Judged : Type 0
-Judged = Expr × Bool
-
-abbrev pub judged_exprs : List Judged → List Expr
-judged_exprs xs = map (λ (x : Judged). x.0) xs
-
-abbrev pub are_sound : List Judged → Bool
-are_sound xs = list_all (λ (x : Judged). x.1) xs
-
-abbrev pub is_unsized_number : Option Number → Bool
-is_unsized_number None = false
-is_unsized_number (Some n) = is_unsized n.spelling
-
--- parts without numbers that have no size, so many times of at most 128 bits together
-abbrev pub can_join : List Entry → ℕ → List Judged → Bool
-can_join names count parts =
-    list_all (λ (x : Judged). not (is_unsized_number (number_by_itself x.0))) parts && nat_le (count * all_width names (judged_exprs parts)) 128
-
--- It holds no concatenation or replication with a number without a size as a part or of more than 128 bits, and no
--- replication count outside 1 to 128.
-abbrev pub sound_step : List Entry → Expr-F Judged → Bool
-sound_step names (o.Number n) = true
-sound_step names (o.Name n) = true
-sound_step names (o.Select n bracket index) = index.1
-sound_step names (o.Part n bracket msb_at msb lsb_at lsb) = msb.1 && lsb.1
-sound_step names (o.Unary op x) = x.1
-sound_step names (o.Chain x links) = x.1 && list_all (λ (link : BinaryOperator × Judged). link.1.1) links
-sound_step names (o.Conditional c x y) = c.1 && x.1 && y.1
-sound_step names (o.Concat brace parts) = are_sound parts && can_join names 1 parts
-sound_step names (o.Replicate brace count_at count inner parts) =
-    count.1 && are_sound parts && is_between_1_and_128 (constant_value names count.0) && can_join names (or_zero (constant_value names count.0)) parts
-sound_step names (o.Cast sign x) = x.1
-
-abbrev pub is_sound : List Entry → Expr → Bool
-is_sound names = para-Expr Bool (sound_step names)
-
--- a constant expression with a proper value
-abbrev pub is_proper : List Entry → Expr → Bool
-is_proper names x = is_constant names x && is_sound names x
-
-abbrev pub is_count : List Entry → Expr → Bool
-is_count names x = is_proper names x && is_between_1_and_128 (constant_value names x)
 
 -- ---- faults in declarations: the first byte of an expression, or the bracket of a range
 
@@ -184,27 +131,27 @@ abbrev pub wire_faults : List Entry → Option Placed → List ℕ
 wire_faults names None = []
 wire_faults names (Some x) = expr_faults names x.expr
 
--- over the names before the item; what is assigned, and processes, over all names
-abbrev pub item_faults : List Entry → List Entry → Item → List ℕ
-item_faults all names (i.Parameters group) = parameter_faults names group
-item_faults all names (i.LocalParameters group) = parameter_faults names group
-item_faults all names (i.Wires signed range nets) = vector_faults names range ++ flat_map (λ (d : Declared). wire_faults all d.value) nets
-item_faults all names (i.Regs signed range variables) = vector_faults names range ++ flat_map (variable_faults names) variables
-item_faults all names (i.Assigns settings) = flat_map (λ (s : Setting). expr_faults all s.value.expr) settings
-item_faults all names (i.Always event body) = stmt_faults all body
+-- over the names before the item
+abbrev pub item_faults : List Entry → Item → List ℕ
+item_faults names (i.Parameters group) = parameter_faults names group
+item_faults names (i.LocalParameters group) = parameter_faults names group
+item_faults names (i.Wires signed range nets) = vector_faults names range ++ flat_map (λ (d : Declared). wire_faults names d.value) nets
+item_faults names (i.Regs signed range variables) = vector_faults names range ++ flat_map (variable_faults names) variables
+item_faults names (i.Assigns settings) = flat_map (λ (s : Setting). expr_faults names s.value.expr) settings
+item_faults names (i.Always event body) = stmt_faults names body
 
-abbrev pub items_faults : Roles → List Entry → List Entry → List Item → List ℕ
-items_faults roles all names [] = []
-items_faults roles all names (x ∷ items) = item_faults all names x ++ items_faults roles all (behind_item roles names x) items
+abbrev pub items_faults : Roles → List Entry → List Item → List ℕ
+items_faults roles names [] = []
+items_faults roles names (x ∷ items) = item_faults names x ++ items_faults roles (behind_item roles names x) items
 
-abbrev pub ports_faults : Roles → List Entry → List Entry → List PortGroup → List Item → List ℕ
-ports_faults roles all names [] items = items_faults roles all names items
-ports_faults roles all names (group ∷ groups) items = port_faults names group ++ ports_faults roles all (behind_ports roles names group) groups items
+abbrev pub ports_faults : Roles → List Entry → List PortGroup → List Item → List ℕ
+ports_faults roles names [] items = items_faults roles names items
+ports_faults roles names (group ∷ groups) items = port_faults names group ++ ports_faults roles (behind_ports roles names group) groups items
 
-abbrev pub header_faults : Roles → List Entry → List Entry → List ParameterGroup → Module → List ℕ
-header_faults roles all names [] m = ports_faults roles all names m.ports m.items
-header_faults roles all names (group ∷ groups) m = parameter_faults names group ++ header_faults roles all (behind_parameters names group) groups m
+abbrev pub header_faults : Roles → List Entry → List ParameterGroup → Module → List ℕ
+header_faults roles names [] m = ports_faults roles names m.ports m.items
+header_faults roles names (group ∷ groups) m = parameter_faults names group ++ header_faults roles (behind_parameters names group) groups m
 
 -- the first fault alone
 abbrev pub improper : Module → List ℕ
-improper m = take 1 (header_faults (roles_of m.items) (names_of m) [] m.parameters m)
+improper m = take 1 (header_faults (roles_of m.items) [] m.parameters m)

@@ -10,6 +10,7 @@ pub mod Acts
 pub mod Statements
 pub mod Designs
 pub mod Declarations
+pub mod Proper
 pub mod Sites
 pub mod Modules
 pub mod Marks

@@ -1,5 +1,5 @@
 -- What a number of the source stands for: its width and sign, and which of its bits are 1, x and z (1364-2005, 3.5.1).
-use Rattle.std.specs.Prelude.{ℕ, zero, suc, ◌+◌, ◌-◌, ◌*◌, ◌/◌, ◌%◌, ◌^◌, ◌==◌, List, [], ◌∷◌, length, filter, Bool, true, false, not, ◌&&◌, ◌||◌, if◌then◌else◌, nat_le}
+use Rattle.std.specs.Prelude.{ℕ, zero, suc, ◌+◌, ◌-◌, ◌*◌, ◌/◌, ◌%◌, ◌^◌, ◌==◌, List, [], ◌∷◌, length, filter, Bool, true, false, not, ◌&&◌, ◌||◌, if◌then◌else◌, nat_le, nat_lt}
 use Rattle.std.specs.List.{list_any}
 use Rattle.v_syntax.specs.Numbers.{is_white, is_binary, is_octal, is_decimal, is_digit, is_unknown_digit}
 use Rattle.v_syntax.specs.declared.expr.Spelling.{Spelling}
@@ -113,3 +113,9 @@ abbrev pub is_unsized : Spelling → Bool
 is_unsized (s.Decimal digits) = true
 is_unsized (s.Based bytes) = true
 is_unsized (s.Sized size bytes) = false
+
+-- a size of 0 or over 128; a decimal number of 2^31 or more; a number without a size that has x or z
+abbrev pub is_wrong_number : Spelling → Bool
+is_wrong_number (s.Decimal digits) = nat_le (2 ^ 31) (decimal_value digits)
+is_wrong_number (s.Based bytes) = digit_in is_x (s.Based bytes) || digit_in is_z (s.Based bytes)
+is_wrong_number (s.Sized size bytes) = decimal_value size == 0 || nat_lt 128 (decimal_value size)

@@ -1,13 +1,12 @@
 -- The rules of names and expressions: for each the places of the marks that break it, in text order.
-use Rattle.std.specs.Prelude.{ℕ, ◌+◌, ◌^◌, ◌==◌, List, [], ◌∷◌, ◌++◌, Bool, true, false, not, ◌&&◌, ◌||◌, nat_le, nat_lt, Option, Some}
+use Rattle.std.specs.Prelude.{ℕ, List, [], ◌∷◌, ◌++◌, Bool, true, false, not, ◌&&◌, ◌||◌, Option}
 use Rattle.lz_base.specs.Names.{is_among}
-use Rattle.v_syntax.specs.declared.expr.Spelling.{Spelling}
-use Rattle.v_syntax.specs.declared.expr.Spelling.TheVariants as s
-use Rattle.v_meaning.specs.Literals.{decimal_value, digit_in, is_x, is_z}
+use Rattle.v_meaning.specs.Literals.{digit_in, is_wrong_number, is_z}
 use Rattle.v_meaning.specs.declared.names.Kind.{Kind}
 use Rattle.v_meaning.specs.declared.names.Kind.TheVariants.{Parameter, Memory}
 use Rattle.v_meaning.specs.declared.names.Entry.{Entry}
 use Rattle.v_meaning.specs.Names.{entry_of}
+use Rattle.v_meaning.specs.Proper.{is_between_1_and_128, is_part}
 use Rattle.v_meaning.specs.Marks.{Form, Bare, Indexed, PartOf, Mark, Declares, Valued, Used, Digits, UnsizedPart, Joined, Again}
 
 -- a place, where a test holds
@@ -45,11 +44,6 @@ used_early all parameters ended (_ ∷ marks) = used_early all parameters ended 
 
 -- ---- E6: a size of 0 or over 128; a decimal number of 2^31 or more; a number without a size that has x or z. The number
 
-abbrev pub is_wrong_number : Spelling → Bool
-is_wrong_number (s.Decimal digits) = nat_le (2 ^ 31) (decimal_value digits)
-is_wrong_number (s.Based bytes) = digit_in is_x (s.Based bytes) || digit_in is_z (s.Based bytes)
-is_wrong_number (s.Sized size bytes) = decimal_value size == 0 || nat_lt 128 (decimal_value size)
-
 abbrev pub wrong_number : Mark → List ℕ
 wrong_number (Digits item n) = place_if (is_wrong_number n.spelling) n.at
 wrong_number _ = []
@@ -70,11 +64,7 @@ abbrev pub wrong_form : List Entry → Mark → List ℕ
 wrong_form names (Used form n) = place_if (is_wrong_form (entry_of names n.name).kind (entry_of names n.name).is_vector form) n.at
 wrong_form names _ = []
 
--- ---- E9: bounds that ascend or leave the declared range. The name (5.2.1)
-
-abbrev pub is_part : Entry → Option ℕ → Option ℕ → Bool
-is_part e (Some msb) (Some lsb) = nat_le e.low lsb && nat_le lsb msb && nat_lt msb (e.low + e.width)
-is_part e _ _ = false
+-- ---- E9: bounds that have no proper value, ascend or leave the declared range. The name (5.2.1)
 
 abbrev pub wrong_part : List Entry → Mark → List ℕ
 wrong_part names (Used (PartOf msb lsb) n) = place_if (not (is_part (entry_of names n.name) msb lsb)) n.at
@@ -86,10 +76,10 @@ abbrev pub unsized_part : Mark → List ℕ
 unsized_part (UnsizedPart at) = at ∷ []
 unsized_part _ = []
 
--- ---- E11: a concatenation or replication of more than 128 bits, also as a target. Its brace
+-- ---- E11: a concatenation or replication that is not of 1 to 128 bits, also as a target. Its brace
 
 abbrev pub too_wide : Mark → List ℕ
-too_wide (Joined width brace) = place_if (nat_lt 128 width) brace
+too_wide (Joined width brace) = place_if (not (is_between_1_and_128 width)) brace
 too_wide _ = []
 
 -- ---- E12: a second default in one case. That default (9.5)

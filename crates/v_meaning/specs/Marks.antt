@@ -1,6 +1,7 @@
 -- What the rules of declarations and expressions look at, in text order: each name as it is declared or used, each number,
 -- each concatenation.
-use Rattle.std.specs.Prelude.{ℕ, ◌+◌, ◌*◌, List, [], ◌∷◌, ◌++◌, map, flat_map, Bool, true, false, ◌||◌, if◌then◌else◌, Option, None, Some}
+use Rattle.std.specs.Prelude.{ℕ, ◌+◌, List, [], ◌∷◌, ◌++◌, map, flat_map, Bool, true, false, ◌||◌, if◌then◌else◌, Option, None, Some}
+use Rattle.std.specs.List.{list_all}
 use Rattle.v_syntax.specs.declared.token.Ident.{Ident}
 use Rattle.v_syntax.specs.declared.expr.Expr.{Expr}
 use Rattle.v_syntax.specs.declared.expr.Expr.TheOpen.{Expr-F}
@@ -34,14 +35,13 @@ use Rattle.v_syntax.specs.declared.module.Item.{Item}
 use Rattle.v_syntax.specs.declared.module.Item.TheVariants as i
 use Rattle.v_syntax.specs.declared.module.Module.{Module}
 use Rattle.v_meaning.specs.Literals.{is_unsized}
-use Rattle.v_meaning.specs.Senses.{joined}
 use Rattle.v_meaning.specs.declared.names.Entry.{Entry}
-use Rattle.v_meaning.specs.Names.{or_zero}
-use Rattle.v_meaning.specs.Expressions.{sense_of, number_by_itself}
+use Rattle.v_meaning.specs.Expressions.{number_by_itself}
 use Rattle.v_meaning.specs.Targets.{target_of}
-use Rattle.v_meaning.specs.Declarations.{joined_lists, constant_value}
+use Rattle.v_meaning.specs.Declarations.{joined_lists}
+use Rattle.v_meaning.specs.Proper.{proper_value, bits_if, concat_bits, replicated_bits, is_definite_target}
 
--- how a name is used: by itself; with an index; with these bounds, of which None is a negative one
+-- how a name is used: by itself; with an index; with these bounds, of which None is one with no proper value
 pub data Form : Type 0 where
   Bare : Form
   Indexed : Form
@@ -53,16 +53,10 @@ pub data Mark : Type 0 where
   Used : Form → Ident → Mark
   Digits : Bool → Number → Mark  -- a number, and whether it is by itself an item of a casez
   UnsizedPart : ℕ → Mark  -- a number without a size is a part of a concatenation or replication
-  Joined : ℕ → ℕ → Mark  -- a concatenation or replication: its width, and its brace
+  Joined : Option ℕ → ℕ → Mark  -- a concatenation or replication: its width, where that is definite, and its brace
   Again : ℕ → Mark  -- a default behind another one
 
 -- ---- expressions
-
-abbrev pub width_of : List Entry → Expr → ℕ
-width_of names x = (sense_of names [] x).width
-
-abbrev pub all_width : List Entry → List Expr → ℕ
-all_width names parts = (joined (map (sense_of names []) parts)).width
 
 abbrev pub unsized_number : Option Number → List Mark
 unsized_number None = []
@@ -83,13 +77,13 @@ abbrev pub mark_step : List Entry → Expr-F (Expr × List Mark) → List Mark
 mark_step names (o.Number n) = Digits false n ∷ []
 mark_step names (o.Name n) = Used Bare n ∷ []
 mark_step names (o.Select n bracket index) = Used Indexed n ∷ index.1
-mark_step names (o.Part n bracket msb_at msb lsb_at lsb) = Used (PartOf (constant_value names msb.0) (constant_value names lsb.0)) n ∷ msb.1 ++ lsb.1
+mark_step names (o.Part n bracket msb_at msb lsb_at lsb) = Used (PartOf (proper_value names msb.0) (proper_value names lsb.0)) n ∷ msb.1 ++ lsb.1
 mark_step names (o.Unary op x) = x.1
 mark_step names (o.Chain x links) = x.1 ++ links_marks links
 mark_step names (o.Conditional c x y) = c.1 ++ x.1 ++ y.1
-mark_step names (o.Concat brace parts) = Joined (all_width names (operands parts)) brace ∷ parts_marks parts
+mark_step names (o.Concat brace parts) = Joined (concat_bits names (operands parts)) brace ∷ parts_marks parts
 mark_step names (o.Replicate brace count_at count inner parts) =
-    Joined (or_zero (constant_value names count.0) * all_width names (operands parts)) brace ∷ count.1 ++ parts_marks parts
+    Joined (replicated_bits names count.0 (operands parts)) brace ∷ count.1 ++ parts_marks parts
 mark_step names (o.Cast sign x) = x.1
 
 abbrev pub marks_of : List Entry → Expr → List Mark
@@ -109,16 +103,23 @@ abbrev pub targets_marks : List (Target × List Mark) → List Mark
 targets_marks [] = []
 targets_marks (x ∷ xs) = x.1 ++ targets_marks xs
 
-abbrev pub targets_width : List Entry → List (Target × List Mark) → ℕ
+abbrev pub targets_width : List Entry → List Target → ℕ
 targets_width names [] = 0
-targets_width names (x ∷ xs) = (target_of names [] x.0).width + targets_width names xs
+targets_width names (x ∷ xs) = (target_of names [] x).width + targets_width names xs
+
+-- how many bits targets have together, where they are definite
+abbrev pub joined_targets_bits : List Entry → List Target → Option ℕ
+joined_targets_bits names xs = bits_if (list_all (is_definite_target names) xs) (targets_width names xs)
+
+abbrev pub targets_bits : List Entry → List (Target × List Mark) → Option ℕ
+targets_bits names xs = joined_targets_bits names (map (λ x. x.0) xs)
 
 abbrev pub target_mark_step : List Entry → Target-F (Target × List Mark) → List Mark
 target_mark_step names (t.Name n) = Used Bare n ∷ []
 target_mark_step names (t.Select n bracket index) = Used Indexed n ∷ marks_of names index
 target_mark_step names (t.Part n r) =
-    Used (PartOf (constant_value names r.msb.expr) (constant_value names r.lsb.expr)) n ∷ range_marks names (Some r)
-target_mark_step names (t.Concat brace parts) = Joined (targets_width names parts) brace ∷ targets_marks parts
+    Used (PartOf (proper_value names r.msb.expr) (proper_value names r.lsb.expr)) n ∷ range_marks names (Some r)
+target_mark_step names (t.Concat brace parts) = Joined (targets_bits names parts) brace ∷ targets_marks parts
 
 abbrev pub target_marks : List Entry → Target → List Mark
 target_marks names = para-Target (List Mark) (target_mark_step names)

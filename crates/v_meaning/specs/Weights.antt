@@ -30,7 +30,7 @@ use Rattle.v_meaning.specs.Expressions.{is_constant}
 use Rattle.v_meaning.specs.Statements.{comparison_of, all_items}
 use Rattle.v_meaning.specs.Targets.{target_of}
 use Rattle.v_meaning.specs.Sites.{is_fixed}
-use Rattle.v_meaning.specs.Marks.{width_of}
+use Rattle.v_meaning.specs.Proper.{width_of}
 
 -- an operand beside its weight at a final width
 abbrev pub Weighing : Type 0

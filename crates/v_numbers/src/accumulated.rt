@@ -3,7 +3,7 @@ ghost use Rattle.v_meaning.specs.Literals.{begins, digit_value, digits_in, is_x,
 ghost use Rattle.v_numbers.specs.Ones.{ones_where};
 
 use crate::digit::{Base, counts, digit_value, is_x, is_z};
-use v_words::mask;
+use lz_base::mask;
 
 // The bits of a number modulo 2 ^ 128, as far as its digits have been read: which are 1, x and z.
 #[derive(Clone, Copy)]

@@ -1,14 +1,14 @@
 ghost use Rattle.std.specs.Prelude.{◌≡◌, ◌≤◌, ◌==◌, ◌||◌, nat_lt, false};
 ghost use Rattle.v_meaning.specs.Literals.{based_literal, decimal_value, behind_mark, behind_sign, digits_in, literal, literal_of};
-ghost use Rattle.v_meaning.specs.MarkRules.{is_wrong_number};
+ghost use Rattle.v_meaning.specs.Literals.{is_wrong_number};
 ghost use Rattle.v_numbers.specs.Fit.{IsFit};
 
 use crate::accumulated::masks_of;
 use crate::decimal::decimal_up_to;
 use crate::digit::base_of;
+use lz_base::cut;
 use v_meaning::Literal;
 use v_syntax::Spelling;
-use v_words::cut;
 
 /// What a number stands for, one that is not wrong. Digits that are too many for its width are cut on the left; a leftmost
 /// x or z goes on to the left where they are too few.

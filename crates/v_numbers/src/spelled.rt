@@ -1,6 +1,6 @@
 ghost use Rattle.std.specs.Prelude.{◌≡◌, ◌==◌, ◌||◌, nat_lt};
 ghost use Rattle.v_meaning.specs.Literals.{decimal_value, digit_in, has_digit, is_unsized, is_x, is_z};
-ghost use Rattle.v_meaning.specs.MarkRules.{is_wrong_number};
+ghost use Rattle.v_meaning.specs.Literals.{is_wrong_number};
 
 use crate::decimal::decimal_up_to;
 use crate::digit::{is_x, is_z};

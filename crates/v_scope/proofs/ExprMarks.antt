@@ -13,10 +13,9 @@ use Rattle.v_syntax.specs.declared.expr.BinaryOperator.{BinaryOperator}
 use Rattle.std.specs.Option.{option_copied}
 use Rattle.v_meaning.specs.Literals.{is_unsized}
 use Rattle.v_meaning.specs.declared.names.Entry.{Entry}
-use Rattle.v_meaning.specs.Names.{or_zero}
 use Rattle.v_meaning.specs.Expressions.{number_by_itself}
-use Rattle.v_meaning.specs.Declarations.{constant_value}
-use Rattle.v_meaning.specs.Marks.{Mark, Used, Bare, Indexed, PartOf, Digits, UnsizedPart, Joined, all_width, unsized_number, parts_marks, links_marks, operands, mark_step, marks_of}
+use Rattle.v_meaning.specs.Proper.{proper_value, concat_bits, replicated_bits}
+use Rattle.v_meaning.specs.Marks.{Mark, Used, Bare, Indexed, PartOf, Digits, UnsizedPart, Joined, unsized_number, parts_marks, links_marks, operands, mark_step, marks_of}
 use Rattle.v_scope.specs.Lists.{link_marks, part_marks}
 
 pub when_number : (x : Expr) (n : Number) → x ≡ e.Number n → (names : List Entry) → marks_of names x ≡ Digits false n ∷ []
@@ -30,7 +29,7 @@ when_select x i j n bracket is p names =
     rw p (ap (marks_of names) is ∙ ap (marks_of names) (sym (e.rolls-Select n bracket i)) ∙ para-roll-Expr (List Mark) (mark_step names) (o.Select n bracket i))
 
 pub when_part : (x m l m' l' : Expr) (n : Ident) (bracket ma la : ℕ) → x ≡ e.Part n bracket ma m la l → m' ≡ m → l' ≡ l →
-    (names : List Entry) → marks_of names x ≡ (Used (PartOf (constant_value names m') (constant_value names l')) n ∷ []) ++ marks_of names m' ++ marks_of names l'
+    (names : List Entry) → marks_of names x ≡ (Used (PartOf (proper_value names m') (proper_value names l')) n ∷ []) ++ marks_of names m' ++ marks_of names l'
 when_part x m l m' l' n bracket ma la is p q names =
     rw (p, q) (ap (marks_of names) is ∙ ap (marks_of names) (sym (e.rolls-Part n bracket ma m la l)) ∙ para-roll-Expr (List Mark) (mark_step names) (o.Part n bracket ma m la l))
 
@@ -68,18 +67,18 @@ themselves f [] = refl
 themselves {A = A} f (x ∷ xs) = ap (λ (r : List A). x ∷ r) (themselves f xs)
 
 pub when_concat : (x : Expr) (brace : ℕ) (parts more : List Expr) → x ≡ e.Concat brace parts → more ≡ parts →
-    (names : List Entry) → marks_of names x ≡ (Joined (all_width names more) brace ∷ []) ++ flat_map (part_marks names) more
+    (names : List Entry) → marks_of names x ≡ (Joined (concat_bits names more) brace ∷ []) ++ flat_map (part_marks names) more
 when_concat x brace parts more is q names =
     rw q (ap (marks_of names) is ∙ ap (marks_of names) (sym (e.rolls-Concat brace parts)) ∙ para-roll-Expr (List Mark) (mark_step names) (o.Concat brace parts)
-    ∙ ap (λ (r : List Mark). Joined (all_width names (operands (map (λ (y : Expr). (y, marks_of names y)) parts))) brace ∷ r) (parts_map names parts)
-    ∙ ap (λ (ys : List Expr). Joined (all_width names ys) brace ∷ flat_map (part_marks names) parts) (themselves (marks_of names) parts))
+    ∙ ap (λ (r : List Mark). Joined (concat_bits names (operands (map (λ (y : Expr). (y, marks_of names y)) parts))) brace ∷ r) (parts_map names parts)
+    ∙ ap (λ (ys : List Expr). Joined (concat_bits names ys) brace ∷ flat_map (part_marks names) parts) (themselves (marks_of names) parts))
 
 pub when_replicate : (x c c' : Expr) (brace ca inner : ℕ) (parts more : List Expr) → x ≡ e.Replicate brace ca c inner parts → c' ≡ c → more ≡ parts →
-    (names : List Entry) → marks_of names x ≡ (Joined (or_zero (constant_value names c') * all_width names more) brace ∷ []) ++ marks_of names c' ++ flat_map (part_marks names) more
+    (names : List Entry) → marks_of names x ≡ (Joined (replicated_bits names c' more) brace ∷ []) ++ marks_of names c' ++ flat_map (part_marks names) more
 when_replicate x c c' brace ca inner parts more is p q names =
     rw (p, q) (ap (marks_of names) is ∙ ap (marks_of names) (sym (e.rolls-Replicate brace ca c inner parts)) ∙ para-roll-Expr (List Mark) (mark_step names) (o.Replicate brace ca c inner parts)
-    ∙ ap (λ (r : List Mark). Joined (or_zero (constant_value names c) * all_width names (operands (map (λ (y : Expr). (y, marks_of names y)) parts))) brace ∷ marks_of names c ++ r) (parts_map names parts)
-    ∙ ap (λ (ys : List Expr). Joined (or_zero (constant_value names c) * all_width names ys) brace ∷ marks_of names c ++ flat_map (part_marks names) parts) (themselves (marks_of names) parts))
+    ∙ ap (λ (r : List Mark). Joined (replicated_bits names c (operands (map (λ (y : Expr). (y, marks_of names y)) parts))) brace ∷ marks_of names c ++ r) (parts_map names parts)
+    ∙ ap (λ (ys : List Expr). Joined (replicated_bits names c ys) brace ∷ marks_of names c ++ flat_map (part_marks names) parts) (themselves (marks_of names) parts))
 
 -- ---- numbers that are parts
 

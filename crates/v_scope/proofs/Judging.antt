@@ -11,7 +11,8 @@ use Rattle.v_syntax.specs.declared.token.Ident.{Ident}
 use Rattle.v_syntax.specs.declared.expr.Number.{Number}
 use Rattle.v_meaning.specs.declared.names.Entry.{Entry}
 use Rattle.v_meaning.specs.Marks.{Mark, Declares, Valued, Used, Digits, UnsizedPart, Joined, Again}
-use Rattle.v_meaning.specs.MarkRules.{place_if, declared_twice, used_early, declared_in, valued_in, wrong_number, is_wrong_number}
+use Rattle.v_meaning.specs.Literals.{is_wrong_number}
+use Rattle.v_meaning.specs.MarkRules.{place_if, declared_twice, used_early, declared_in, valued_in, wrong_number}
 use Rattle.v_scope.specs.declared.occurrence.Occurrence.{Occurrence}
 use Rattle.v_scope.specs.declared.occurrence.Occurrence.TheVariants as v
 use Rattle.v_scope.specs.Occurrences.{mark_of, marks_in}

@@ -24,11 +24,11 @@ use Rattle.v_syntax.specs.declared.stmt.Stmt.TheVariants as s
 use Rattle.v_syntax.specs.declared.stmt.Stmt.TheOpen as o
 use Rattle.v_syntax.specs.declared.stmt.Stmt.TheFolds.{fold-Arm, fold-roll-Stmt, fold-roll-Arm}
 use Rattle.v_meaning.specs.declared.names.Entry.{Entry}
-use Rattle.v_meaning.specs.Declarations.{constant_value, joined_lists}
-use Rattle.v_meaning.specs.Targets.{target_of}
-use Rattle.v_meaning.specs.Marks.{Mark, Used, Bare, Indexed, PartOf, Digits, Joined, Again, ArmMarks, item_digits, item_marks, marks_of, range_marks, targets_marks, targets_width, target_mark_step, target_marks, label_marks, is_default, arms_marks, stmt_mark_step, stmt_marks}
+use Rattle.v_meaning.specs.Declarations.{joined_lists}
+use Rattle.v_meaning.specs.Proper.{proper_value}
+use Rattle.v_meaning.specs.Marks.{Mark, Used, Bare, Indexed, PartOf, Digits, Joined, Again, ArmMarks, item_digits, item_marks, marks_of, range_marks, targets_marks, targets_bits, joined_targets_bits, target_mark_step, target_marks, label_marks, is_default, arms_marks, stmt_mark_step, stmt_marks}
 use Rattle.v_scope.specs.declared.occurrence.Occurrence.{Occurrence}
-use Rattle.v_scope.specs.Occurrences.{width_of_targets, marks_in, Adds}
+use Rattle.v_scope.specs.Occurrences.{marks_in, Adds}
 use Rattle.v_scope.proofs.Adding.{next_is}
 use Rattle.v_scope.specs.Lists.{arms_behind}
 
@@ -42,7 +42,7 @@ when_selected x n bracket i is names =
     ap (target_marks names) is ∙ ap (target_marks names) (sym (t.rolls-Select n bracket i)) ∙ para-roll-Target (List Mark) (target_mark_step names) (q.Select n bracket i)
 
 pub when_bounded : (x : Target) (n : Ident) (r : Range) → x ≡ t.Part n r →
-    (names : List Entry) → target_marks names x ≡ (Used (PartOf (constant_value names r.msb.expr) (constant_value names r.lsb.expr)) n ∷ []) ++ range_marks names (Some r)
+    (names : List Entry) → target_marks names x ≡ (Used (PartOf (proper_value names r.msb.expr) (proper_value names r.lsb.expr)) n ∷ []) ++ range_marks names (Some r)
 when_bounded x n r is names =
     ap (target_marks names) is ∙ ap (target_marks names) (sym (t.rolls-Part n r)) ∙ para-roll-Target (List Mark) (target_mark_step names) (q.Part n r)
 
@@ -50,16 +50,16 @@ targets_map : (names : List Entry) (parts : List Target) → targets_marks (map 
 targets_map names [] = refl
 targets_map names (x ∷ xs) = ap (λ (r : List Mark). target_marks names x ++ r) (targets_map names xs) ∙ sym (flat_map-cons (target_marks names) x xs)
 
-widths_map : (names : List Entry) (parts : List Target) → targets_width names (map (λ (y : Target). (y, target_marks names y)) parts) ≡ width_of_targets names parts
-widths_map names [] = refl
-widths_map names (x ∷ xs) = ap (λ (w : ℕ). (target_of names [] x).width + w) (widths_map names xs)
+targets_themselves : (names : List Entry) (parts : List Target) → map (λ (x : Target × List Mark). x.0) (map (λ (y : Target). (y, target_marks names y)) parts) ≡ parts
+targets_themselves names [] = refl
+targets_themselves names (x ∷ xs) = ap (λ (r : List Target). x ∷ r) (targets_themselves names xs)
 
 pub when_joined : (x : Target) (brace : ℕ) (parts more : List Target) → x ≡ t.Concat brace parts → more ≡ parts →
-    (names : List Entry) → target_marks names x ≡ (Joined (width_of_targets names more) brace ∷ []) ++ flat_map (target_marks names) more
+    (names : List Entry) → target_marks names x ≡ (Joined (joined_targets_bits names more) brace ∷ []) ++ flat_map (target_marks names) more
 when_joined x brace parts more is p names =
     rw p (ap (target_marks names) is ∙ ap (target_marks names) (sym (t.rolls-Concat brace parts)) ∙ para-roll-Target (List Mark) (target_mark_step names) (q.Concat brace parts)
-    ∙ ap (λ (r : List Mark). Joined (targets_width names (map (λ (y : Target). (y, target_marks names y)) parts)) brace ∷ r) (targets_map names parts)
-    ∙ ap (λ (w : ℕ). Joined w brace ∷ flat_map (target_marks names) parts) (widths_map names parts))
+    ∙ ap (λ (r : List Mark). Joined (targets_bits names (map (λ (y : Target). (y, target_marks names y)) parts)) brace ∷ r) (targets_map names parts)
+    ∙ ap (λ (ys : List Target). Joined (joined_targets_bits names ys) brace ∷ flat_map (target_marks names) parts) (targets_themselves names parts))
 
 -- ---- the labels of arms
 

@@ -43,13 +43,6 @@ pub(crate) fn used<'a>(occurrence: &Occurrence<'a>) -> Option<&'a Ident>
     }
 }
 
-// Whether a name is one of those that were met.
-pub(crate) fn is_met<'a>(met: &BTreeSet<&'a [u8]>, name: &'a [u8]) -> bool
-    ensures { (names : List (List ℕ)) → Met met.now names → result ≡ is_among name.now names }
-{
-    met.contains(name)
-}
-
 // A name, if there is one, is met from now on.
 pub(crate) fn meet_some<'a>(
     met: &mut BTreeSet<&'a [u8]>,

@@ -8,8 +8,8 @@ ghost use Rattle.v_scope.specs.Firsts.{least_from};
 ghost use Rattle.v_scope.specs.Idents.{behind, twice_at, early_at, is_early};
 
 use crate::Occurrence;
-use crate::idents::{declared, is_met, meet_some, used, valued};
-use lz_base::{OutOfMemory, meet, no_names};
+use crate::idents::{declared, meet_some, used, valued};
+use lz_base::{OutOfMemory, is_met, meet, no_names};
 use std::alloc::Global;
 use std::collections::BTreeSet;
 use v_numbers::is_wrong;

@@ -12,7 +12,7 @@ use Rattle.v_syntax.specs.declared.expr.UnaryOperator.{UnaryOperator}
 use Rattle.v_syntax.specs.declared.expr.BinaryOperator.{BinaryOperator}
 use Rattle.v_meaning.specs.Senses.{joined}
 use Rattle.v_meaning.specs.declared.names.Entry.{Entry}
-use Rattle.v_meaning.specs.MarkRules.{is_wrong_number}
+use Rattle.v_meaning.specs.Literals.{is_wrong_number}
 use Rattle.v_typing.specs.Meanings.{meanings}
 use Rattle.v_typing.specs.Fit.{operands, operands_fit, link_operands_fit, fit_step, is_fit, are_fit, links_fit}
 

@@ -7,7 +7,7 @@ use Rattle.v_syntax.specs.declared.expr.Expr.TheFolds.{para-Expr}
 use Rattle.v_syntax.specs.declared.expr.BinaryOperator.{BinaryOperator}
 use Rattle.v_meaning.specs.Senses.{joined}
 use Rattle.v_meaning.specs.declared.names.Entry.{Entry}
-use Rattle.v_meaning.specs.MarkRules.{is_wrong_number}
+use Rattle.v_meaning.specs.Literals.{is_wrong_number}
 use Rattle.v_typing.specs.Meanings.{meanings}
 
 -- expressions beside what is known of them

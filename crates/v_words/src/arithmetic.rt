@@ -1,6 +1,6 @@
 ghost use Rattle.std.specs.Prelude.{◌≡◌, ◌≤◌, ◌<◌, ◌^◌, ◌+◌, ◌-◌, ◌*◌, ◌/◌, ◌%◌};
 
-use crate::{cut, mask};
+use lz_base::{cut, mask};
 
 // The product modulo 2 ^ width.
 #[tactic(auto, using(crate::proofs::Powers::cut_again))]

@@ -7,12 +7,10 @@
 #![tactic(auto)]
 
 mod arithmetic;
-mod masks;
 mod operators;
 mod parts;
 mod sign;
 
-pub use masks::{cut, mask};
 pub use operators::{operate, operate_before};
 pub use parts::{beside, copies, part, with_part};
 pub use sign::{extend, is_less, is_negative};

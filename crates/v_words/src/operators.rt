@@ -7,8 +7,8 @@ ghost use Rattle.v_words.specs.Operands.{AreOperands};
 use crate::arithmetic::{
     add, invert, multiply, shift_left, shift_right, shift_right_with_ones, subtract,
 };
-use crate::mask;
 use crate::sign::{is_less, is_negative};
+use lz_base::mask;
 use v_syntax::{BinaryOperator, UnaryOperator};
 
 /// What an operator between two operands makes of their values, at the width and sign that it works at (IEEE Std

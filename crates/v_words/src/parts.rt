@@ -3,7 +3,7 @@ ghost use Rattle.v_meaning.specs.Senses.{copies};
 ghost use Rattle.v_meaning.specs.Views.{with_bits};
 
 use crate::arithmetic::shift_right;
-use crate::cut;
+use lz_base::cut;
 
 /// Two words side by side, the left one more significant (IEEE Std 1364-2005, 5.1.14). A width may be 0.
 #[tactic(auto, using(crate::proofs::Splits::beside_below, crate::proofs::Splits::beside_or, std::proofs::lemmas::Nat::shl_whole))]

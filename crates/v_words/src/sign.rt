@@ -2,7 +2,7 @@ ghost use Rattle.std.specs.Prelude.{◌≡◌, ◌≤◌, ◌<◌, ◌^◌};
 ghost use Rattle.lz_base.specs.Bits.{is_negative};
 ghost use Rattle.v_meaning.specs.Senses.{extended, less};
 
-use crate::mask;
+use lz_base::mask;
 
 /// Whether the top bit is 1.
 pub fn is_negative(width: u32, value: u128) -> bool

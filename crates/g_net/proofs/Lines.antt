@@ -1,48 +1,24 @@
 -- What one more line of a network keeps.
-use Rattle.std.proofs.Common.{◌≡◌, ◌≤◌, ◌<◌, ◌+◌, ◌*◌, ◌/◌, ℕ, List, [], ◌∷◌, ◌++◌, ◌≢◌, length, Option, Some, IsSome, slice_get, slice_set, get_or, zero, suc, arith, refl, sym, ap, ◌∙◌, add-zero}
+use Rattle.std.proofs.Common.{◌≡◌, ◌≤◌, ◌<◌, ◌+◌, ◌/◌, ℕ, List, [], ◌∷◌, ◌++◌, length, Option, Some, IsSome, slice_get, slice_set, get_or, zero, suc, arith, refl, ap, ◌∙◌, add-zero}
 use Rattle.std.proofs.lemmas.Grind.{common_steps}
 use Rattle.lz_base.specs.declared.name.Port.{Port}
-use Rattle.lz_base.specs.Names.{IsNew, AreDistinct}
+use Rattle.lz_base.specs.Names.{IsNew}
+use Rattle.lz_circuit.specs.Lines.{port_bits, HasClock}
+use Rattle.lz_circuit.proofs.Lines.{bits_more, widths_more, distinct_more, clocked_more}
 use Rattle.g_net.specs.declared.network.Flip.{Flip}
 use Rattle.g_net.specs.declared.network.Gate.{Gate}
-use Rattle.g_net.specs.declared.network.Gate.TheVariants.{And, Xor, Carry}
 use Rattle.g_net.specs.declared.network.Output.{Output}
-use Rattle.g_net.specs.Network.{NetworkValue, nodes_of, gate_nodes, port_bits, first_gate, node_count, LiteralsBelow, ReadsBelow, ReadBackwards, HaveWidths, HaveLiterals, OutputsBelow, HasClock, FlipsBelow, with_literals, names_of, IsWellFormed}
-
-at_most_two : (g : Gate) → nodes_of g ≤ 2
-at_most_two (And a b) = omega arith
-at_most_two (Xor a b) = omega arith
-at_most_two (Carry a b c) = omega arith
-
-gates_bound : (gs : List Gate) → gate_nodes gs ≤ 2 * length gs
-gates_bound [] = omega arith
-gates_bound (g ∷ gs) = omega (arith, gates_bound gs, at_most_two g)
-
-ports_bound : (ps : List Port) → HaveWidths ps → port_bits ps ≤ 128 * length ps
-ports_bound [] h = omega arith
-ports_bound (p ∷ ps) h = omega (arith, ports_bound ps h.2, h.1)
-
--- there are not many more nodes than lines
-pub count_bound : (n : NetworkValue) → HaveWidths n.inputs → node_count n ≤ 1 + 128 * length n.inputs + length n.flips + 2 * length n.gates
-count_bound n h = omega (arith, ports_bound n.inputs h, gates_bound n.gates)
+use Rattle.g_net.specs.Network.{NetworkValue, nodes_of, gate_nodes, first_gate, node_count, LiteralsBelow, ReadsBelow, ReadBackwards, HaveLiterals, OutputsBelow, FlipsBelow, with_literals, names_of, IsWellFormed}
 
 pub gates_more : (gs : List Gate) (g : Gate) → gate_nodes (gs ++ g ∷ []) ≡ gate_nodes gs + nodes_of g
 gates_more [] g = omega arith
 gates_more (d ∷ gs) g = omega (arith, gates_more gs g)
-
-pub bits_more : (ps : List Port) (p : Port) → port_bits (ps ++ p ∷ []) ≡ port_bits ps + p.width
-bits_more [] p = omega arith
-bits_more (q ∷ ps) p = omega (arith, bits_more ps p)
 
 reads_more : (next : ℕ) (gs : List Gate) (g : Gate) → ReadBackwards next gs → ReadsBelow (next + gate_nodes gs) g → ReadBackwards next (gs ++ g ∷ [])
 reads_more next [] g h one = (rw (add-zero next) at one, tt)
 reads_more next (d ∷ gs) g h one =
     let e : next + (nodes_of d + gate_nodes gs) ≡ next + nodes_of d + gate_nodes gs = omega arith in
     (h.0, reads_more (next + nodes_of d) gs g h.1 (rw e at one))
-
-widths_more : (ps : List Port) (p : Port) → HaveWidths ps → 1 ≤ p.width → p.width ≤ 128 → HaveWidths (ps ++ p ∷ [])
-widths_more [] p h low high = (low, high, tt)
-widths_more (q ∷ ps) p h low high = (h.0, h.1, widths_more ps p h.2 low high)
 
 literals_more : (os : List Output) (o : Output) → HaveLiterals os → 1 ≤ length o.literals → length o.literals ≤ 128 → HaveLiterals (os ++ o ∷ [])
 literals_more [] o h low high = (low, high, tt)
@@ -51,14 +27,6 @@ literals_more (q ∷ os) o h low high = (h.0, h.1, literals_more os o h.2 low hi
 outputs_more : (count : ℕ) (os : List Output) (o : Output) → OutputsBelow count os → LiteralsBelow count o.literals → OutputsBelow count (os ++ o ∷ [])
 outputs_more count [] o h one = (one, tt)
 outputs_more count (q ∷ os) o h one = (h.0, outputs_more count os o h.1 one)
-
-new_more : (ns : List (List ℕ)) (n x : List ℕ) → IsNew n ns → n ≢ x → IsNew n (ns ++ x ∷ [])
-new_more [] n x h ne = (ne, tt)
-new_more (m ∷ ns) n x h ne = (h.0, new_more ns n x h.1 ne)
-
-distinct_more : (ns : List (List ℕ)) (x : List ℕ) → AreDistinct ns → IsNew x ns → AreDistinct (ns ++ x ∷ [])
-distinct_more [] x h fresh = (tt, tt)
-distinct_more (n ∷ ns) x h fresh = (new_more ns n x h.0 (λ e. fresh.0 (sym e)), distinct_more ns x h.1 fresh.1)
 
 -- without outputs the number of nodes does not matter
 outputs_none : (a b : ℕ) (os : List Output) → os ≡ [] → OutputsBelow b os
@@ -69,10 +37,6 @@ outputs_none a b (o ∷ os) e = cc
 gates_none : (a b : ℕ) (gs : List Gate) → gs ≡ [] → ReadBackwards a gs → ReadBackwards b gs
 gates_none a b [] e h = tt
 gates_none a b (g ∷ gs) e h = cc
-
-clocked_more : (clock : Option (List ℕ)) (fs : List Flip) (f : Flip) → IsSome clock → HasClock clock (fs ++ f ∷ [])
-clocked_more clock [] f h = h
-clocked_more clock (g ∷ fs) f h = h
 
 -- more nodes do no harm to the flip-flops
 flips_wider : (a b : ℕ) (fs : List Flip) → a ≤ b → FlipsBelow a fs → FlipsBelow b fs
@@ -219,17 +183,17 @@ literals_there count (q ∷ os) zero o h is =
     rw (← e) h.0
 literals_there count (q ∷ os) (suc i) o h is = literals_there count os i o h.1 is
 
--- the number of the next node behind one more line
-pub count_gate : (n m : NetworkValue) (gs : List Gate) (g : Gate) (next step : ℕ) → n ≡ m → gs ≡ n.gates ++ g ∷ [] → next ≡ node_count m → step ≡ nodes_of g → next + step ≡ node_count (record n { gates = gs })
-count_gate n m gs g next step e is at by = omega (arith, ap node_count e, ap gate_nodes is, gates_more n.gates g)
+-- the number of nodes with one more line
+pub count_gate : (n m : NetworkValue) (gs : List Gate) (g : Gate) (more : ℕ) → n ≡ m → gs ≡ n.gates ++ g ∷ [] → more ≡ nodes_of g → node_count m + more ≡ node_count (record n { gates = gs })
+count_gate n m gs g more e is by = omega (arith, ap node_count e, ap gate_nodes is, gates_more n.gates g, by)
 
-pub count_flip : (n m : NetworkValue) (fs : List Flip) (f : Flip) (next : ℕ) → n ≡ m → fs ≡ n.flips ++ f ∷ [] → next ≡ node_count m → next + 1 ≡ node_count (record n { flips = fs })
-count_flip n m fs f next e is at =
+pub count_flip : (n m : NetworkValue) (fs : List Flip) (f : Flip) → n ≡ m → fs ≡ n.flips ++ f ∷ [] → node_count m + 1 ≡ node_count (record n { flips = fs })
+count_flip n m fs f e is =
     let longer : length (n.flips ++ f ∷ []) ≡ length n.flips + 1 = grind (arith, common_steps) in
     omega (arith, ap node_count e, ap length is, longer)
 
-pub count_input : (n m : NetworkValue) (ps : List Port) (p : Port) (next : ℕ) → n ≡ m → ps ≡ n.inputs ++ p ∷ [] → next ≡ node_count m → next + p.width ≡ node_count (record n { inputs = ps })
-count_input n m ps p next e is at = omega (arith, ap node_count e, ap port_bits is, bits_more n.inputs p)
+pub count_input : (n m : NetworkValue) (ps : List Port) (p : Port) → n ≡ m → ps ≡ n.inputs ++ p ∷ [] → node_count m + p.width ≡ node_count (record n { inputs = ps })
+count_input n m ps p e is = omega (arith, ap node_count e, ap port_bits is, bits_more n.inputs p)
 
 pub count_set : (n : NetworkValue) (fs : List Flip) (i l e : ℕ) → fs ≡ with_literals n.flips i l e → node_count n ≡ node_count (record n { flips = fs })
 count_set n fs i l e is = omega (arith, ap length is, length_set n.flips i l e)

@@ -2,17 +2,19 @@
 -- they are the one valuation of a network.
 use Rattle.std.proofs.Common.{◌≡◌, ◌==◌, ◌<◌, ◌≤◌, ◌/◌, ◌%◌, ℕ, ◌+◌, ◌*◌, zero, suc, List, [], ◌∷◌, ◌++◌, length, take, get_or, Bool, true, false, not, refl, sym, ap, subst, ◌∙◌, arith, below_more, add-one, append_assoc, append-nil, length-append, add-zero, Some, slice_get}
 use mathlib.Core.Bool.{xor}
-use Rattle.std.proofs.lemmas.List.{get_or-take, ext_get_or, get_or_append_left, get_or-append-add}
+use Rattle.std.proofs.lemmas.List.{get_or_append_left, get_or-append-add}
 use Rattle.std.proofs.Math.Seq.{take-append_seam}
-use Rattle.lz_base.specs.Bits.{low_bits, words_bits}
+use Rattle.lz_base.specs.Bits.{words_bits}
 use Rattle.lz_base.specs.Ports.{FitPorts}
 use Rattle.lz_base.specs.WordValue.{WordValue}
-use Rattle.lz_base.specs.declared.name.Port.{Port}
+use Rattle.lz_circuit.specs.Values.{value_at}
+use Rattle.lz_circuit.proofs.Lines.{bits_fit}
+use Rattle.lz_circuit.proofs.Values.{Agree, front_agrees, whole_agrees}
 use Rattle.g_net.specs.declared.network.Gate.{Gate}
 use Rattle.g_net.specs.declared.network.Gate.TheVariants.{And, Xor, Carry}
 use Rattle.g_net.specs.Grown.{Grows, KeepsValues, StandsAt}
-use Rattle.g_net.specs.Network.{NetworkValue, IsWellFormed, ReadsBelow, ReadBackwards, gate_nodes, nodes_of, first_gate, node_count, source_bits, port_bits}
-use Rattle.g_net.specs.Run.{IsValuation, GateHolds, GatesHold, value_at, literal_value}
+use Rattle.g_net.specs.Network.{NetworkValue, IsWellFormed, ReadsBelow, ReadBackwards, gate_nodes, nodes_of, first_gate, node_count, source_bits}
+use Rattle.g_net.specs.Run.{IsValuation, GateHolds, GatesHold, literal_value}
 use Rattle.g_net.proofs.Lines.{formed_gate}
 use Rattle.g_net.specs.Walk.{gate_values, all_values, values_of, node_of}
 
@@ -30,10 +32,6 @@ pub length_walk : (vs : List Bool) (gs : List Gate) → length (all_values vs gs
 unfolding all_values
 length_walk vs [] = omega arith
 length_walk vs (g ∷ gs) = omega (arith, length_walk (vs ++ gate_values vs g) gs, length-append vs (gate_values vs g), length_gate vs g)
-
--- the same values below a number
-abbrev Agree : List Bool → List Bool → ℕ → Type 0
-Agree a b high = (k : ℕ) → k < high → value_at a k ≡ value_at b k
 
 -- the values before the gates stay
 walk_keeps : (vs : List Bool) (gs : List Gate) → Agree (all_values vs gs) vs (length vs)
@@ -234,22 +232,8 @@ gates_same a b next (g ∷ gs) fine ha hb same =
 pub valuation_same : (n : NetworkValue) (inputs : List WordValue) (state a b : List Bool) → IsWellFormed n → IsValuation n inputs state a → IsValuation n inputs state b → a ≡ b
 valuation_same n inputs state a b fine va vb =
     let first = first_gate n in
-    let fronts : take first a ≡ take first b = va.front ∙ sym vb.front in
-    let front : Agree a b first = λ k h.
-    sym (get_or-take first a k false h) ∙ ap (λ l. get_or l k false) fronts ∙ get_or-take first b k false h in
-    let all = gates_same a b first n.gates fine.gates va.gates vb.gates front in
-    ext_get_or false a b (va.count ∙ sym vb.count) (λ k h. all k (omega (arith, va.count)))
-
-length_bits : (width value : ℕ) → length (low_bits width value) ≡ width
-length_bits zero value = refl
-length_bits (suc width) value = ap suc (length_bits width (value / 2))
-
--- words that fit ports have as many bits as these
-bits_fit : (ps : List Port) (ws : List WordValue) → FitPorts ps ws → length (words_bits ws) ≡ port_bits ps
-bits_fit [] [] h = refl
-bits_fit [] (w ∷ ws) h = absurd h
-bits_fit (p ∷ ps) [] h = absurd h
-bits_fit (p ∷ ps) (w ∷ ws) h = omega (arith, length-append (low_bits w.width w.value) (words_bits ws), length_bits w.width w.value, bits_fit ps ws h.2, h.0)
+    whole_agrees a b (node_count n) va.count vb.count (
+    gates_same a b first n.gates fine.gates va.gates vb.gates (front_agrees a b (false ∷ words_bits inputs ++ state) first va.front vb.front))
 
 pub sources_fit : (n : NetworkValue) (inputs : List WordValue) (state : List Bool) → FitPorts n.inputs inputs → length state ≡ length n.flips → length (words_bits inputs ++ state) ≡ source_bits n
 sources_fit n inputs state fit bits = omega (arith, length-append (words_bits inputs) state, bits_fit n.inputs inputs fit, bits)

@@ -1,8 +1,9 @@
 -- What a network is, and when it is well formed.
-use Rattle.std.specs.Prelude.{ℕ, ◌+◌, ◌/◌, ◌^◌, ◌<◌, ◌≤◌, List, [], ◌∷◌, ◌++◌, length, map, slice_index, zero, suc, Option, IsSome, ⊤}
+use Rattle.std.specs.Prelude.{ℕ, ◌+◌, ◌/◌, ◌^◌, ◌<◌, ◌≤◌, List, [], ◌∷◌, ◌++◌, length, map, slice_index, zero, suc, Option, ⊤}
 use Rattle.std.specs.Option.{option_to_list}
 use Rattle.lz_base.specs.declared.name.Port.{Port}
 use Rattle.lz_base.specs.Names.{AreDistinct}
+use Rattle.lz_circuit.specs.Lines.{port_bits, HaveWidths, HasClock}
 use Rattle.g_net.specs.declared.network.Flip.{Flip}
 use Rattle.g_net.specs.declared.network.Gate.{Gate}
 use Rattle.g_net.specs.declared.network.Gate.TheVariants.{And, Xor, Carry}
@@ -28,11 +29,6 @@ abbrev pub gate_nodes : List Gate → ℕ
 gate_nodes [] = 0
 gate_nodes (g ∷ gs) = nodes_of g + gate_nodes gs
 
--- how many bits the ports have together
-abbrev pub port_bits : List Port → ℕ
-port_bits [] = 0
-port_bits (p ∷ ps) = p.width + port_bits ps
-
 -- how many bits the inputs and the flip-flops have together, each of which is a node
 abbrev pub source_bits : NetworkValue → ℕ
 source_bits n = port_bits n.inputs + length n.flips
@@ -45,7 +41,7 @@ first_gate n = 1 + source_bits n
 abbrev pub node_count : NetworkValue → ℕ
 node_count n = first_gate n + gate_nodes n.gates
 
--- a network in memory has no more nodes than this
+-- a network has no more nodes than this, which are more than fit into any memory
 abbrev pub most_nodes : ℕ
 most_nodes = 2 ^ 72
 
@@ -64,11 +60,6 @@ abbrev pub ReadBackwards : ℕ → List Gate → Type 0
 ReadBackwards next [] = ⊤
 ReadBackwards next (g ∷ gs) = ReadsBelow next g × ReadBackwards (next + nodes_of g) gs
 
--- ports of 1 to 128 bits
-abbrev pub HaveWidths : List Port → Type 0
-HaveWidths [] = ⊤
-HaveWidths (p ∷ ps) = (1 ≤ p.width) × (p.width ≤ 128) × HaveWidths ps
-
 -- outputs of 1 to 128 literals
 abbrev pub HaveLiterals : List Output → Type 0
 HaveLiterals [] = ⊤
@@ -78,11 +69,6 @@ HaveLiterals (o ∷ os) = (1 ≤ length o.literals) × (length o.literals ≤ 12
 abbrev pub OutputsBelow : ℕ → List Output → Type 0
 OutputsBelow count [] = ⊤
 OutputsBelow count (o ∷ os) = LiteralsBelow count o.literals × OutputsBelow count os
-
--- flip-flops stand only behind a clock line
-abbrev pub HasClock : Option (List ℕ) → List Flip → Type 0
-HasClock clock [] = ⊤
-HasClock clock (f ∷ fs) = IsSome clock
 
 -- the literals and the enables of the flip-flops are there
 abbrev pub FlipsBelow : ℕ → List Flip → Type 0

@@ -1,23 +1,18 @@
 -- What a network does in a cycle.
-use Rattle.std.specs.Prelude.{◌≡◌, ℕ, ◌+◌, ◌/◌, ◌%◌, List, [], ◌∷◌, ◌++◌, length, map, take, ⊤, Bool, false, ◌==◌, ◌||◌, ◌&&◌, if◌then◌else◌, slice_index_or}
+use Rattle.std.specs.Prelude.{◌≡◌, ℕ, ◌+◌, ◌/◌, ◌%◌, List, [], ◌∷◌, ◌++◌, length, map, take, ⊤, Bool, false, ◌==◌, ◌&&◌, if◌then◌else◌}
 use Rattle.std.specs.Bool.{xor}
+use Rattle.std.specs.Simd.Lanes.{zip2}
 use Rattle.lz_base.specs.Bits.{word_of, words_bits}
 use Rattle.lz_base.specs.WordValue.{WordValue}
+use Rattle.lz_circuit.specs.Values.{value_at, majority}
 use Rattle.g_net.specs.declared.network.Flip.{Flip}
 use Rattle.g_net.specs.declared.network.Gate.{Gate}
 use Rattle.g_net.specs.declared.network.Gate.TheVariants.{And, Xor, Carry}
 use Rattle.g_net.specs.Network.{NetworkValue, nodes_of, node_count, first_gate}
 
--- the value of a node
-abbrev pub value_at : List Bool → ℕ → Bool
-value_at values node = slice_index_or values node false
-
 -- the value of a literal, for the values of all nodes: that of its node, and where the literal is odd the inverse
 abbrev pub literal_value : List Bool → ℕ → Bool
 literal_value values literal = xor (literal % 2 == 1) (value_at values (literal / 2))
-
-abbrev pub majority : Bool → Bool → Bool → Bool
-majority a b c = (a && b) || ((a && c) || (b && c))
 
 -- The equation of a gate whose first node has this number. A carry gate shows the exclusive or, and on its second node
 -- the majority, of its three literals.
@@ -47,9 +42,7 @@ shown n values = map (λ o. word_of (map (literal_value values) o.literals)) n.o
 -- What flip-flops with these bits hold behind the edge: the value of the literal where the enable's is 1, and else the
 -- bit.
 abbrev pub after_edge : List Bool → List Flip → List Bool → List Bool
-after_edge values [] bits = []
-after_edge values (f ∷ fs) [] = []
-after_edge values (f ∷ fs) (bit ∷ bits) = (if literal_value values f.enable then literal_value values f.literal else bit) ∷ after_edge values fs bits
+after_edge values flips bits = zip2 (λ f bit. if literal_value values f.enable then literal_value values f.literal else bit) flips bits
 
 -- the bits in the flip-flops behind the edge, where these are the bits before it and the values of the nodes
 abbrev pub next_state : NetworkValue → List Bool → List Bool → List Bool

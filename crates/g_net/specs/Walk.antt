@@ -1,10 +1,11 @@
 -- The values of a network's nodes, one after another in the order of their numbers. Builders of networks reason by them.
 use Rattle.std.specs.Prelude.{ℕ, ◌+◌, List, [], ◌∷◌, ◌++◌, take, Bool, false, ◌&&◌}
 use Rattle.std.specs.Bool.{xor}
+use Rattle.lz_circuit.specs.Values.{majority}
 use Rattle.g_net.specs.declared.network.Gate.{Gate}
 use Rattle.g_net.specs.declared.network.Gate.TheVariants.{And, Xor, Carry}
 use Rattle.g_net.specs.Network.{NetworkValue, first_gate, gate_nodes}
-use Rattle.g_net.specs.Run.{literal_value, majority}
+use Rattle.g_net.specs.Run.{literal_value}
 
 -- the values that a gate adds behind those that it reads
 abbrev pub gate_values : List Bool → Gate → List Bool

@@ -7,7 +7,8 @@ ghost use Rattle.g_net.specs.declared.network.Gate.{Gate};
 ghost use Rattle.g_net.specs.AsMachine.{network_machine, NetworkDoes};
 ghost use Rattle.g_net.specs.Grown.{Grows, KeepsValues, StandsAt};
 ghost use Rattle.g_net.specs.Network.{NetworkValue, IsWellFormed, node_count, source_bits, nodes_of};
-ghost use Rattle.g_net.specs.Run.{IsValuation, value_at, literal_value, shown, next_state, first_state};
+ghost use Rattle.lz_circuit.specs.Values.{value_at};
+ghost use Rattle.g_net.specs.Run.{IsValuation, literal_value, shown, next_state, first_state};
 ghost use Rattle.g_net.specs.Walk.{values_of, node_of};
 
 /// Law: a well-formed network has at most one valuation for the words at its inputs and the bits in its flip-flops.

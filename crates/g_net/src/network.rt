@@ -4,7 +4,8 @@ ghost use Rattle.lz_base.specs.Names.{IsNew};
 ghost use Rattle.g_net.specs.Grown.{Grows, KeepsValues, StandsAt};
 ghost use Rattle.g_net.specs.Network as network;
 ghost use Rattle.g_net.specs.Walk.{node_of};
-ghost use Rattle.g_net.specs.Network.{HaveWidths, FlipsBelow, LiteralsBelow, ReadsBelow, ReadBackwards, IsWellFormed, names_of, first_gate, most_nodes, with_literals};
+ghost use Rattle.lz_circuit.specs.Lines.{HaveWidths};
+ghost use Rattle.g_net.specs.Network.{FlipsBelow, LiteralsBelow, ReadsBelow, ReadBackwards, IsWellFormed, names_of, first_gate, most_nodes, with_literals};
 
 use lz_base::{Items, Name, Num, OutOfMemory, Port};
 use std::alloc::Global;
@@ -40,8 +41,8 @@ struct Output {
 /// node for each flip-flop, then one for each and-gate and exclusive-or gate and two for each carry gate. The literal
 /// `2n` is node n and `2n + 1` its inverse, so 0 and 1 are the constants.
 ///
-/// It is made line by line, in the order of its text: inputs, flip-flops, gates, outputs. Where an appending call answers
-/// `OutOfMemory`, the network is as before.
+/// It is made line by line, in the order of its text: inputs, flip-flops, gates, outputs. It has at most 2^72 nodes, which
+/// are more than fit into any memory. Where an appending call answers `OutOfMemory`, the network is as before.
 #[derive(Debug, Drop)]
 pub struct Network {
     alloc: Global,
@@ -66,8 +67,11 @@ impl Model for Network {
     ghost invariant = { IsKept };
 }
 
+// The most nodes of a network.
+const MOST_NODES: Num = 1 << 72;
+
 // How many nodes a gate has.
-fn nodes_of(gate: Gate) -> Num
+fn nodes_of(gate: Gate) -> u32
     ensures { result ≡ network.nodes_of gate }
 {
     match gate {
@@ -113,7 +117,7 @@ impl Network {
         ensures ok { OnOk result (self.new ≡ record self.old { inputs = self.old.inputs ++ port ∷ [] }) }
         ensures err { OnErr result (self.new ≡ self.old) }
     {
-        let next = self.node_count() + port.width as Num;
+        let next = self.node_after(port.width)?;
         self.inputs.push(port)?;
         self.next = next;
         Ok(())
@@ -128,7 +132,7 @@ impl Network {
         ensures ok { OnOk result (self.new ≡ record self.old { flips = self.old.flips ++ record { first = first; literal = 0; enable = 1 } ∷ [] }) }
         ensures err { OnErr result (self.new ≡ self.old) }
     {
-        let next = self.node_count() + 1;
+        let next = self.node_after(1)?;
         self.flips.push(Flip {
             first,
             literal: 0,
@@ -171,12 +175,13 @@ impl Network {
         ensures keeps { OnOk result (KeepsValues self.old self.new) }
         ensures count { IfOk result (λ node. network.node_count self.new ≡ node + network.nodes_of gate) }
         ensures few { OnOk result (network.node_count self.new ≤ most_nodes) }
+        ensures formed { OnOk result (IsWellFormed self.new) }
         ensures err { OnErr result (self.new ≡ self.old) }
     {
         let node = self.node_count();
+        let next = self.node_after(nodes_of(gate))?;
         self.gates.push(gate)?;
-        self.next = node + nodes_of(gate);
-        let _count = self.node_count();
+        self.next = next;
         Ok(node)
     }
 
@@ -229,20 +234,30 @@ impl Network {
     pub fn gates(&self) -> &[Gate]
         ensures gates { result.now ≡ self.now.gates }
         ensures backwards { ReadBackwards (first_gate self.now) self.now.gates }
+        ensures formed { IsWellFormed self.now }
     {
         self.gates.as_slice()
     }
 
-    /// The number of nodes, which is that of the node that comes next. It is far below the bound of numbers, so literals
-    /// are numbers too.
+    /// The number of nodes, which is that of the node that comes next. It is at most 2^72, so literals are numbers too.
     pub fn node_count(&self) -> Num
         ensures count { result ≡ network.node_count self.now }
         ensures few { result ≤ most_nodes }
     {
-        let _inputs = self.inputs.len();
-        let _flips = self.flips.len();
-        let _gates = self.gates.len();
         self.next
+    }
+
+    // The number of nodes with so many more. More than a network can have are taken for want of memory.
+    fn node_after(&self, more: u32) -> Result<Num, OutOfMemory>
+        ensures next { IfOk result (λ next. next ≡ network.node_count self.now + more) }
+        ensures few { IfOk result (λ next. next ≤ most_nodes) }
+    {
+        let next = self.next + more as Num;
+        if next > MOST_NODES {
+            Err(OutOfMemory)
+        } else {
+            Ok(next)
+        }
     }
 
     /// The number of outputs.

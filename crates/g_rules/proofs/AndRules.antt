@@ -6,7 +6,8 @@ use Rattle.g_rules.specs.declared.shapes.Rewrite.TheVariants.{Keep, Literal}
 use Rattle.g_rules.specs.declared.shapes.Rewrite.TheVariants as rewrite
 use Rattle.g_rules.specs.declared.shapes.Shape.{Shape}
 use Rattle.g_rules.specs.declared.shapes.Shape.TheVariants as shape
-use Rattle.g_rules.specs.Literals.{inverse_of, literal_value}
+use Rattle.g_net.specs.Run.{literal_value}
+use Rattle.g_rules.specs.Literals.{inverse_of}
 use Rattle.g_rules.specs.Keeps.{Keeps, KeepsValue, HasZero}
 use Rattle.g_rules.specs.PlainRules.{and_constant_of, and_same_of, and_order_of}
 use Rattle.g_rules.proofs.Bits.{by_test, either, and_self, and_true, and_false, not_and_self}

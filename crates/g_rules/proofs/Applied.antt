@@ -12,7 +12,8 @@ use Rattle.g_rules.specs.declared.shapes.Shape.{Shape}
 use Rattle.g_rules.specs.declared.shapes.Shape.TheVariants as shape
 use Rattle.g_rules.specs.Applying.{outcome_of, Leaves, deep_of, outcome_value, outcome_literals, HasEveryGate, AreWithin, GatesWithin, IsOutcome}
 use Rattle.g_rules.specs.Keeps.{Keeps, KeepsValue, KeepsDeepValue, HasZero, HasGates, is_known, are_known, first_node, second_node}
-use Rattle.g_rules.specs.Literals.{literal_node, literal_value}
+use Rattle.g_net.specs.Run.{literal_value}
+use Rattle.g_rules.specs.Literals.{literal_node}
 use Rattle.g_rules.specs.Shapes.{shape_value, rewrite_value, shape_literals, operand_literals, rewrite_literals, shape_nodes, operand_nodes, deep_nodes}
 use Rattle.g_rules.proofs.Bits.{either, false_xor, xor_assoc}
 use Rattle.g_rules.proofs.Literals.{tested, inverted_value, node_of_inverted}

@@ -9,7 +9,9 @@ use Rattle.g_rules.specs.declared.shapes.Rewrite.TheVariants.{Keep, Literal}
 use Rattle.g_rules.specs.declared.shapes.Rewrite.TheVariants as rewrite
 use Rattle.g_rules.specs.declared.shapes.Shape.{Shape}
 use Rattle.g_rules.specs.declared.shapes.Shape.TheVariants as shape
-use Rattle.g_rules.specs.Literals.{literal_node, is_inverse, inverse_of, inverted_of, value_at, literal_value}
+use Rattle.lz_circuit.specs.Values.{value_at}
+use Rattle.g_net.specs.Run.{literal_value}
+use Rattle.g_rules.specs.Literals.{literal_node, is_inverse, inverse_of, inverted_of}
 use Rattle.g_rules.specs.Shapes.{deep_nodes, shape_nodes, operand_nodes}
 use Rattle.g_rules.specs.Keeps.{Keeps, KeepsDeepValue, HasZero, HasGate, HasGates, is_known}
 use Rattle.g_rules.specs.DeepRules.{or_else, absorbed, subsumed, cancelled, and_absorb_of, and_subsume_of, xor_cancel_of}

@@ -2,7 +2,9 @@
 use Rattle.std.proofs.Common.{◌≡◌, ◌≢◌, ◌==◌, ℕ, ◌+◌, ◌-◌, ◌/◌, ◌%◌, List, Bool, true, false, refl, sym, ap, ◌∙◌, arith}
 use Rattle.std.proofs.lemmas.Bool.Decides.{nat_tests}
 use mathlib.Core.Bool.{xor, not}
-use Rattle.g_rules.specs.Literals.{is_inverse, inverse_of, inverted_of, even_of, value_at, literal_value}
+use Rattle.lz_circuit.specs.Values.{value_at}
+use Rattle.g_net.specs.Run.{literal_value}
+use Rattle.g_rules.specs.Literals.{is_inverse, inverse_of, inverted_of, even_of}
 use Rattle.g_rules.proofs.Bits.{by_test, false_xor, true_xor, not_xor, sign_apart}
 
 pub tested : (m n : ℕ) → (m == n) ≡ true → m ≡ n

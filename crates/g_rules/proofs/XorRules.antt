@@ -6,7 +6,9 @@ use Rattle.g_rules.specs.declared.shapes.Rewrite.TheVariants.{Keep, Literal}
 use Rattle.g_rules.specs.declared.shapes.Rewrite.TheVariants as rewrite
 use Rattle.g_rules.specs.declared.shapes.Shape.{Shape}
 use Rattle.g_rules.specs.declared.shapes.Shape.TheVariants as shape
-use Rattle.g_rules.specs.Literals.{is_inverse, inverse_of, even_of, value_at, literal_value}
+use Rattle.lz_circuit.specs.Values.{value_at}
+use Rattle.g_net.specs.Run.{literal_value}
+use Rattle.g_rules.specs.Literals.{is_inverse, inverse_of, even_of}
 use Rattle.g_rules.specs.Keeps.{KeepsValue, HasZero}
 use Rattle.g_rules.specs.PlainRules.{xor_constant_of, xor_same_of, xor_signs_of, xor_order_of}
 use Rattle.g_rules.proofs.AndRules.{unchanged}

@@ -9,7 +9,8 @@ use Rattle.g_rules.specs.declared.shapes.Rewrite.TheVariants as rewrite
 use Rattle.g_rules.specs.declared.shapes.Shape.{Shape}
 use Rattle.g_rules.specs.declared.shapes.Shape.TheVariants as shape
 use Rattle.g_rules.specs.Keeps.{HasZero, HasGate, first_node, second_node}
-use Rattle.g_rules.specs.Literals.{literal_node, literal_value, inverted_of}
+use Rattle.g_net.specs.Run.{literal_value}
+use Rattle.g_rules.specs.Literals.{literal_node, inverted_of}
 use Rattle.g_rules.specs.Shapes.{shape_value, shape_literals, operand_literals}
 
 -- What is left where a rule rewrites a shape that is to be inverted or not: a literal, or a shape. Each rewrite with an

@@ -4,7 +4,8 @@ use Rattle.g_rules.specs.declared.shapes.Deep.{Deep}
 use Rattle.g_rules.specs.declared.shapes.Rewrite.{Rewrite}
 use Rattle.g_rules.specs.declared.shapes.Shape.{Shape}
 use Rattle.g_rules.specs.declared.shapes.Shape.TheVariants as shape
-use Rattle.g_rules.specs.Literals.{literal_node, value_at}
+use Rattle.lz_circuit.specs.Values.{value_at}
+use Rattle.g_rules.specs.Literals.{literal_node}
 use Rattle.g_rules.specs.Shapes.{shape_value, rewrite_value, shape_nodes, deep_nodes, rewrite_literals}
 
 -- whether a node is the constant or one of these

@@ -1,7 +1,5 @@
--- Literals, and their values where the values of all nodes are given. A literal is 2n for node n, and 2n + 1 for its
--- inverse. Node 0 is the constant 0.
-use Rattle.std.specs.Prelude.{◌==◌, ℕ, ◌+◌, ◌-◌, ◌*◌, ◌/◌, ◌%◌, List, Bool, true, false, slice_index_or, if◌then◌else◌}
-use Rattle.std.specs.Bool.{xor}
+-- Literals: 2n for node n, and 2n + 1 for its inverse. Node 0 is the constant 0.
+use Rattle.std.specs.Prelude.{◌==◌, ℕ, ◌+◌, ◌-◌, ◌*◌, ◌/◌, ◌%◌, Bool, true, false, if◌then◌else◌}
 
 -- the node of a literal
 abbrev pub literal_node : ℕ → ℕ
@@ -22,9 +20,3 @@ inverted_of literal false = literal
 -- the literal of the node itself
 abbrev pub even_of : ℕ → ℕ
 even_of literal = 2 * (literal / 2)
-
-abbrev pub value_at : List Bool → ℕ → Bool
-value_at values node = slice_index_or values node false
-
-abbrev pub literal_value : List Bool → ℕ → Bool
-literal_value values literal = xor (is_inverse literal) (value_at values (literal_node literal))

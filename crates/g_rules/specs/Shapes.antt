@@ -6,7 +6,8 @@ use Rattle.g_rules.specs.declared.shapes.Rewrite.{Rewrite}
 use Rattle.g_rules.specs.declared.shapes.Rewrite.TheVariants as rewrite
 use Rattle.g_rules.specs.declared.shapes.Shape.{Shape}
 use Rattle.g_rules.specs.declared.shapes.Shape.TheVariants as shape
-use Rattle.g_rules.specs.Literals.{literal_node, literal_value}
+use Rattle.g_net.specs.Run.{literal_value}
+use Rattle.g_rules.specs.Literals.{literal_node}
 
 abbrev pub shape_value : List Bool → Shape → Bool
 shape_value values (shape.And a b) = literal_value values a && literal_value values b

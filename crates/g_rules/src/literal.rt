@@ -1,6 +1,7 @@
-ghost use Rattle.std.specs.Prelude.{◌≡◌};
+ghost use Rattle.std.specs.Prelude.{◌≡◌, ℕ, List, Bool};
 ghost use Rattle.std.specs.Bool.{xor};
-ghost use Rattle.g_rules.specs.Literals.{inverse_of, inverted_of, even_of, is_inverse};
+ghost use Rattle.g_net.specs.Run.{literal_value};
+ghost use Rattle.g_rules.specs.Literals.{literal_node, inverse_of, inverted_of, even_of, is_inverse};
 
 use lz_base::Num;
 
@@ -43,3 +44,9 @@ pub fn differ(a: bool, b: bool) -> bool
 {
     a != b
 }
+
+/// Law: a literal that is inverted where it is asked is of the same node, and its value is inverted where it is asked.
+pub fn inverted_values()
+    ensures value { (values : List Bool) (literal : ℕ) (invert : Bool) → literal_value values (inverted_of literal invert) ≡ xor invert (literal_value values literal) }
+    ensures node { (literal : ℕ) (invert : Bool) → literal_node (inverted_of literal invert) ≡ literal_node literal }
+{}

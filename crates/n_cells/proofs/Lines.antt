@@ -1,11 +1,13 @@
 -- What one more line of a netlist keeps.
-use Rattle.std.proofs.Common.{◌≡◌, ◌≤◌, ◌+◌, ℕ, List, [], ◌∷◌, ◌++◌, ◌≢◌, length, Option, Some, IsSome, slice_get, zero, suc, arith, refl, sym, add-zero}
+use Rattle.std.proofs.Common.{◌≡◌, ◌≤◌, ◌+◌, ℕ, List, [], ◌∷◌, ◌++◌, length, Some, IsSome, slice_get, zero, suc, arith, refl, add-zero}
 use Rattle.std.proofs.lemmas.Grind.{common_steps}
 use Rattle.lz_base.specs.declared.name.Port.{Port}
-use Rattle.lz_base.specs.Names.{IsNew, AreDistinct}
+use Rattle.lz_base.specs.Names.{IsNew}
+use Rattle.lz_circuit.specs.Lines.{HaveWidths}
+use Rattle.lz_circuit.proofs.Lines.{widths_more, distinct_more, clocked_more}
 use Rattle.n_cells.specs.declared.netlist.Flop.{Flop}
 use Rattle.n_cells.specs.declared.netlist.Stored.{Stored}
-use Rattle.n_cells.specs.Netlist.{HasShape, HaveShapes, ReadsBelow, ReadBackwards, FillOutputs, OutputsBelow, AllBelow, nets_of, cell_nets, HaveWidths, NetlistValue, IsBegun, net_count, first_net, names_of, HasClock}
+use Rattle.n_cells.specs.Netlist.{HasShape, HaveShapes, ReadsBelow, ReadBackwards, FillOutputs, OutputsBelow, AllBelow, nets_of, cell_nets, NetlistValue, IsBegun, net_count, first_net, names_of}
 
 -- there are as many lists of nets as outputs
 pub length_filled : (ps : List Port) (ns : List (List ℕ)) → FillOutputs ps ns → length ps ≡ length ns
@@ -34,18 +36,6 @@ reads_more next (d ∷ cs) c h one =
     let e : next + (nets_of d + cell_nets cs) ≡ next + nets_of d + cell_nets cs = omega arith in
     (h.0, reads_more (next + nets_of d) cs c h.1 (rw e at one))
 
-widths_more : (ps : List Port) (p : Port) → HaveWidths ps → 1 ≤ p.width → p.width ≤ 128 → HaveWidths (ps ++ p ∷ [])
-widths_more [] p h low high = (low, high, tt)
-widths_more (q ∷ ps) p h low high = (h.0, h.1, widths_more ps p h.2 low high)
-
-new_more : (ns : List (List ℕ)) (n x : List ℕ) → IsNew n ns → n ≢ x → IsNew n (ns ++ x ∷ [])
-new_more [] n x h ne = (ne, tt)
-new_more (m ∷ ns) n x h ne = (h.0, new_more ns n x h.1 ne)
-
-distinct_more : (ns : List (List ℕ)) (x : List ℕ) → AreDistinct ns → IsNew x ns → AreDistinct (ns ++ x ∷ [])
-distinct_more [] x h fresh = (tt, tt)
-distinct_more (n ∷ ns) x h fresh = (new_more ns n x h.0 (λ e. fresh.0 (sym e)), distinct_more ns x h.1 fresh.1)
-
 -- without outputs the number of nets does not matter
 outputs_none : (a b : ℕ) (ps : List Port) (ns : List (List ℕ)) → ps ≡ [] → FillOutputs ps ns → OutputsBelow a ns → OutputsBelow b ns
 outputs_none a b ps [] e f h = tt
@@ -56,10 +46,6 @@ outputs_none a b (p ∷ ps) (n ∷ ns) e f h = cc
 cells_none : (a b : ℕ) (cs : List Stored) → cs ≡ [] → ReadBackwards a cs → ReadBackwards b cs
 cells_none a b [] e h = tt
 cells_none a b (c ∷ cs) e h = cc
-
-clocked_more : (clock : Option (List ℕ)) (fs : List Flop) (f : Flop) → IsSome clock → HasClock clock (fs ++ f ∷ [])
-clocked_more clock [] f h = h
-clocked_more clock (g ∷ fs) f h = h
 
 -- one more cell
 pub begun_cell : (n m : NetlistValue) (c : Stored) → n ≡ m → IsBegun n → m.outputs ≡ [] → HasShape c → ReadsBelow (net_count m) c → IsBegun (record n { cells = n.cells ++ c ∷ [] })

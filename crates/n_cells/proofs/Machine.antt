@@ -2,62 +2,47 @@
 -- without enables.
 use Rattle.std.proofs.Common.{◌≡◌, ◌↔◌, ◌<◌, ℕ, suc, List, [], ◌∷◌, length, map, get_or, Bool, true, false, refl, sym, ap, ◌∙◌, arith, if◌then◌else◌}
 use Rattle.std.proofs.lemmas.List.{get_or-take}
+use Rattle.std.proofs.lemmas.Simd.{length-zip2}
 use Rattle.lz_base.specs.Ports.{FitPorts}
 use Rattle.lz_base.specs.WordValue.{WordValue}
 use Rattle.lz_machine.specs.Machine.{Lasts}
-use Rattle.lz_machine.proofs.Laws.{lasts_by}
+use Rattle.lz_circuit.specs.Values.{value_at}
+use Rattle.lz_circuit.proofs.Laws.{HasOneValuation, step_there, step_alone, never_stops}
 use Rattle.n_cells.specs.declared.format.Format.TheVariants.{One}
 use Rattle.n_cells.specs.declared.netlist.Flop.{Flop}
-use Rattle.n_cells.specs.AsMachine.{NetlistDoes, netlist_machine}
+use Rattle.n_cells.specs.AsMachine.{NetlistDoes, netlist_circuit, netlist_machine}
 use Rattle.n_cells.specs.Form.{HaveEnables}
 use Rattle.n_cells.specs.Netlist.{NetlistValue, IsWellFormed, first_net}
 use Rattle.n_cells.specs.OldRun.{OldRuns, old_next_state}
-use Rattle.n_cells.specs.Run.{IsValuation, Runs, value_at, after_edge, shown, next_state, first_state}
+use Rattle.n_cells.specs.Run.{IsValuation, Runs, after_edge, shown, next_state}
 use Rattle.n_cells.specs.Walk.{walked}
 use Rattle.n_cells.proofs.Valuation.{valuation_same, valuation_there}
 
-length_edge : (values : List Bool) (fs : List Flop) (bits : List Bool) → length bits ≡ length fs → length (after_edge values fs bits) ≡ length fs
-length_edge values [] bits e = refl
-length_edge values (f ∷ fs) [] e = absurd (omega arith)
-length_edge values (f ∷ fs) (bit ∷ bits) e = ap suc (length_edge values fs bits (omega arith))
-
 -- the flip-flops keep their number
 pub length_next : (n : NetlistValue) (state values : List Bool) → length state ≡ length n.flops → length (next_state n state values) ≡ length n.flops
-length_next n state values e = length_edge values n.flops state e
+length_next n state values e = length-zip2 (λ (f : Flop) bit. if value_at values f.enable then value_at values f.net else bit) n.flops state (sym e)
 
-length_firsts : (fs : List Flop) → length (map (λ f. f.first) fs) ≡ length fs
-length_firsts [] = refl
-length_firsts (f ∷ fs) = ap suc (length_firsts fs)
-
-pub length_first : (n : NetlistValue) → length (first_state n) ≡ length n.flops
-length_first n = length_firsts n.flops
-
--- what it does under the values that come out net after net
-pub step_there : (n : NetlistValue) (inputs : List WordValue) (state : List Bool) → IsWellFormed n → FitPorts n.inputs inputs → length state ≡ length n.flops
-    → NetlistDoes n state inputs (shown n (walked n inputs state)) (next_state n state (walked n inputs state))
-step_there n inputs state fine fit bits = record {
-  values = walked n inputs state;
-  valued = valuation_there n inputs state fine fit bits;
-  shows = refl;
-  goes_on = refl;
+-- a well-formed netlist has one valuation
+one : (n : NetlistValue) → IsWellFormed n → HasOneValuation (netlist_circuit n) (length n.flops) (walked n)
+one n fine = record {
+  there = λ inputs state. valuation_there n inputs state fine;
+  alone = λ inputs state a b. valuation_same n inputs state a b fine;
+  bits = length_next n;
 }
 
+-- what it does under the values that come out net after net
+pub does_there : (n : NetlistValue) (inputs : List WordValue) (state : List Bool) → IsWellFormed n → FitPorts n.inputs inputs → length state ≡ length n.flops
+    → NetlistDoes n state inputs (shown n (walked n inputs state)) (next_state n state (walked n inputs state))
+does_there n inputs state fine = step_there (netlist_circuit n) (length n.flops) (walked n) inputs state (one n fine)
+
 -- and it does nothing else
-pub step_alone : (n : NetlistValue) (inputs outputs : List WordValue) (state after : List Bool) → IsWellFormed n → FitPorts n.inputs inputs → length state ≡ length n.flops
+pub does_alone : (n : NetlistValue) (inputs outputs : List WordValue) (state after : List Bool) → IsWellFormed n → FitPorts n.inputs inputs → length state ≡ length n.flops
     → NetlistDoes n state inputs outputs after → (outputs ≡ shown n (walked n inputs state)) × (after ≡ next_state n state (walked n inputs state))
-step_alone n inputs outputs state after fine fit bits does =
-    let same : does.values ≡ walked n inputs state = valuation_same n inputs state does.values (walked n inputs state) fine does.valued (valuation_there n inputs state fine fit bits) in
-    (does.shows ∙ ap (shown n) same, does.goes_on ∙ ap (next_state n state) same)
+does_alone n inputs outputs state after fine = step_alone (netlist_circuit n) (length n.flops) (walked n) inputs outputs state after (one n fine)
 
 -- it never stops
-pub never_stops : (n : NetlistValue) (state : List Bool) (cycles : ℕ) → IsWellFormed n → length state ≡ length n.flops → Lasts (netlist_machine n) cycles state
-never_stops n state cycles fine bits =
-    lasts_by (netlist_machine n) (λ (s : List Bool). length s ≡ length n.flops)
-    (λ s many inputs fit. (
-      (shown n (walked n inputs s), next_state n s (walked n inputs s), step_there n inputs s fine fit many),
-      λ outputs after does. ap length does.goes_on ∙ length_next n s does.values many,
-    ))
-    cycles state bits
+pub goes_on : (n : NetlistValue) (state : List Bool) (cycles : ℕ) → IsWellFormed n → length state ≡ length n.flops → Lasts (netlist_machine n) cycles state
+goes_on n state cycles fine = never_stops (netlist_circuit n) (length n.flops) (walked n) state cycles (one n fine)
 
 edge_same : (values : List Bool) (fs : List Flop) (bits : List Bool) → value_at values 1 ≡ true → HaveEnables One fs → length bits ≡ length fs
     → after_edge values fs bits ≡ map (λ f. value_at values f.net) fs

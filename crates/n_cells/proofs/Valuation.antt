@@ -1,23 +1,20 @@
 -- A netlist has exactly one valuation.
-use Rattle.std.proofs.Common.{◌≡◌, ◌<◌, ℕ, ◌+◌, zero, suc, List, [], ◌∷◌, ◌++◌, length, take, get_or, Bool, true, false, refl, sym, ap, ◌∙◌, arith, below_more, if◌then◌else◌, ◌*◌, append_assoc, length-append, add-zero, ◌/◌}
+use Rattle.std.proofs.Common.{◌≡◌, ℕ, ◌+◌, zero, List, [], ◌∷◌, ◌++◌, length, take, get_or, Bool, true, false, refl, sym, ap, ◌∙◌, arith, below_more, if◌then◌else◌, ◌*◌, append_assoc, length-append, add-zero}
 use Rattle.std.specs.Bool.{xor}
-use Rattle.std.proofs.lemmas.List.{get_or-take, ext_get_or}
 use Rattle.std.proofs.Math.Seq.{take-append_seam}
 use Rattle.std.proofs.lemmas.List.{get_or_append_left, get_or-append-add}
 use Rattle.std.proofs.lemmas.Grind.{common_steps}
-use Rattle.lz_base.specs.Bits.{low_bits, words_bits}
+use Rattle.lz_base.specs.Bits.{words_bits}
 use Rattle.lz_base.specs.Ports.{FitPorts}
 use Rattle.lz_base.specs.WordValue.{WordValue}
-use Rattle.lz_base.specs.declared.name.Port.{Port}
+use Rattle.lz_circuit.specs.Values.{value_at, majority}
+use Rattle.lz_circuit.proofs.Lines.{bits_fit}
+use Rattle.lz_circuit.proofs.Values.{Agree, front_agrees, whole_agrees}
 use Rattle.n_cells.specs.declared.netlist.Stored.{Stored}
 use Rattle.n_cells.specs.declared.netlist.Stored.TheVariants.{Lut, Carry}
-use Rattle.n_cells.specs.Netlist.{NetlistValue, IsWellFormed, ReadBackwards, AllBelow, cell_nets, nets_of, first_net, port_bits}
-use Rattle.n_cells.specs.Run.{IsValuation, CellsHold, value_at, index_of, table_bit, majority}
+use Rattle.n_cells.specs.Netlist.{NetlistValue, IsWellFormed, ReadBackwards, AllBelow, cell_nets, nets_of, net_count, first_net}
+use Rattle.n_cells.specs.Run.{IsValuation, CellsHold, index_of, table_bit}
 use Rattle.n_cells.specs.Walk.{cell_values, all_values, walked}
-
--- the same values below a number
-abbrev Agree : List Bool → List Bool → ℕ → Type 0
-Agree a b high = (k : ℕ) → k < high → value_at a k ≡ value_at b k
 
 index_same : (a b : List Bool) (next : ℕ) (leaves : List ℕ) → Agree a b next → AllBelow next leaves → index_of a leaves ≡ index_of b leaves
 index_same a b next [] same below = refl
@@ -48,22 +45,8 @@ cells_same a b next (Carry x y z ∷ cells) fine ha hb same =
 pub valuation_same : (n : NetlistValue) (inputs : List WordValue) (state a b : List Bool) → IsWellFormed n → IsValuation n inputs state a → IsValuation n inputs state b → a ≡ b
 valuation_same n inputs state a b fine va vb =
     let first = first_net n.inputs n.flops in
-    let fronts : take first a ≡ take first b = va.front ∙ sym vb.front in
-    let front : Agree a b first = λ k h.
-    sym (get_or-take first a k false h) ∙ ap (λ l. get_or l k false) fronts ∙ get_or-take first b k false h in
-    let all = cells_same a b first n.cells fine.begun.cells va.cells vb.cells front in
-    ext_get_or false a b (va.count ∙ sym vb.count) (λ k h. all k (omega (arith, va.count)))
-
-length_bits : (width value : ℕ) → length (low_bits width value) ≡ width
-length_bits zero value = refl
-length_bits (suc width) value = ap suc (length_bits width (value / 2))
-
--- words that fit ports have as many bits as these
-bits_fit : (ps : List Port) (ws : List WordValue) → FitPorts ps ws → length (words_bits ws) ≡ port_bits ps
-bits_fit [] [] h = refl
-bits_fit [] (w ∷ ws) h = absurd h
-bits_fit (p ∷ ps) [] h = absurd h
-bits_fit (p ∷ ps) (w ∷ ws) h = omega (arith, length-append (low_bits w.width w.value) (words_bits ws), length_bits w.width w.value, bits_fit ps ws h.2, h.0)
+    whole_agrees a b (net_count n) va.count vb.count (
+    cells_same a b first n.cells fine.begun.cells va.cells vb.cells (front_agrees a b (false ∷ true ∷ words_bits inputs ++ state) first va.front vb.front))
 
 length_cell : (values : List Bool) (c : Stored) → length (cell_values values c) ≡ nets_of c
 length_cell values (Lut leaves table) = refl

@@ -1,8 +1,9 @@
 -- What a netlist is, and when it is well formed.
-use Rattle.std.specs.Prelude.{◌≡◌, ℕ, ◌+◌, ◌^◌, ◌<◌, ◌≤◌, List, [], ◌∷◌, ◌++◌, length, map, Option, IsSome, ⊤}
+use Rattle.std.specs.Prelude.{◌≡◌, ℕ, ◌+◌, ◌^◌, ◌<◌, ◌≤◌, List, [], ◌∷◌, ◌++◌, length, map, Option, ⊤}
 use Rattle.std.specs.Option.{option_to_list}
 use Rattle.lz_base.specs.declared.name.Port.{Port}
 use Rattle.lz_base.specs.Names.{AreDistinct}
+use Rattle.lz_circuit.specs.Lines.{port_bits, HaveWidths, HasClock}
 use Rattle.n_cells.specs.declared.netlist.Flop.{Flop}
 use Rattle.n_cells.specs.declared.netlist.Stored.{Stored}
 use Rattle.n_cells.specs.declared.netlist.Stored.TheVariants.{Lut, Carry}
@@ -27,11 +28,6 @@ nets_of (Carry a b c) = 2
 abbrev pub cell_nets : List Stored → ℕ
 cell_nets [] = 0
 cell_nets (c ∷ cs) = nets_of c + cell_nets cs
-
--- how many bits the ports have together
-abbrev pub port_bits : List Port → ℕ
-port_bits [] = 0
-port_bits (p ∷ ps) = p.width + port_bits ps
 
 -- the number of the first net behind the two constants, the inputs and the flip-flops
 abbrev pub first_net : List Port → List Flop → ℕ
@@ -65,11 +61,6 @@ abbrev pub ReadBackwards : ℕ → List Stored → Type 0
 ReadBackwards next [] = ⊤
 ReadBackwards next (c ∷ cs) = ReadsBelow next c × ReadBackwards (next + nets_of c) cs
 
--- ports of 1 to 128 bits
-abbrev pub HaveWidths : List Port → Type 0
-HaveWidths [] = ⊤
-HaveWidths (p ∷ ps) = (1 ≤ p.width) × (p.width ≤ 128) × HaveWidths ps
-
 -- each output has as many nets as its width says
 abbrev pub FillOutputs : List Port → List (List ℕ) → Type 0
 FillOutputs [] [] = ⊤
@@ -81,11 +72,6 @@ FillOutputs (p ∷ ps) (nets ∷ more) = (length nets ≡ p.width) × FillOutput
 abbrev pub OutputsBelow : ℕ → List (List ℕ) → Type 0
 OutputsBelow count [] = ⊤
 OutputsBelow count (nets ∷ more) = AllBelow count nets × OutputsBelow count more
-
--- flip-flops stand only behind a clock line
-abbrev pub HasClock : Option (List ℕ) → List Flop → Type 0
-HasClock clock [] = ⊤
-HasClock clock (f ∷ fs) = IsSome clock
 
 -- the nets and the enables of the flip-flops are there
 abbrev pub FlopsBelow : ℕ → List Flop → Type 0

@@ -1,8 +1,9 @@
 -- What a netlist of format 1 does: its flip-flops have no enable.
 use Rattle.std.specs.Prelude.{◌≡◌, List, [], ◌∷◌, map, ⊤, Bool}
 use Rattle.lz_base.specs.WordValue.{WordValue}
+use Rattle.lz_circuit.specs.Values.{value_at}
 use Rattle.n_cells.specs.Netlist.{NetlistValue}
-use Rattle.n_cells.specs.Run.{IsValuation, value_at, shown}
+use Rattle.n_cells.specs.Run.{IsValuation, shown}
 
 -- the bits in the flip-flops behind the edge: each has the value of its net
 abbrev pub old_next_state : NetlistValue → List Bool → List Bool

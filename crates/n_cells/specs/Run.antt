@@ -1,16 +1,14 @@
 -- What a netlist does in a cycle.
-use Rattle.std.specs.Prelude.{◌≡◌, ℕ, ◌+◌, ◌*◌, ◌/◌, ◌%◌, ◌^◌, List, [], ◌∷◌, ◌++◌, length, map, take, ⊤, Bool, true, false, ◌==◌, ◌||◌, ◌&&◌, if◌then◌else◌, slice_index_or}
+use Rattle.std.specs.Prelude.{◌≡◌, ℕ, ◌+◌, ◌*◌, ◌/◌, ◌%◌, ◌^◌, List, [], ◌∷◌, ◌++◌, length, map, take, ⊤, Bool, true, false, ◌==◌, if◌then◌else◌}
 use Rattle.std.specs.Bool.{xor}
+use Rattle.std.specs.Simd.Lanes.{zip2}
 use Rattle.lz_base.specs.Bits.{word_of, words_bits}
 use Rattle.lz_base.specs.WordValue.{WordValue}
+use Rattle.lz_circuit.specs.Values.{value_at, majority}
 use Rattle.n_cells.specs.declared.netlist.Flop.{Flop}
 use Rattle.n_cells.specs.declared.netlist.Stored.{Stored}
 use Rattle.n_cells.specs.declared.netlist.Stored.TheVariants.{Lut, Carry}
 use Rattle.n_cells.specs.Netlist.{NetlistValue, net_count, first_net}
-
--- the value of a net
-abbrev pub value_at : List Bool → ℕ → Bool
-value_at values net = slice_index_or values net false
 
 -- the number that the leaves' bits make, the first leaf's bit lowest
 abbrev pub index_of : List Bool → List ℕ → ℕ
@@ -20,9 +18,6 @@ index_of values (leaf ∷ leaves) = (if value_at values leaf then 1 else 0) + 2 
 -- bit i of a table
 abbrev pub table_bit : ℕ → ℕ → Bool
 table_bit table i = (table / 2 ^ i % 2) == 1
-
-abbrev pub majority : Bool → Bool → Bool → Bool
-majority a b c = (a && b) || ((a && c) || (b && c))
 
 -- Each cell's equation holds, where the first cell's first net has this number: a look-up table shows the bit that
 -- its leaves choose, a carry cell the exclusive or, and on its second net the majority, of its three nets.
@@ -47,9 +42,7 @@ shown n values = map (λ nets. word_of (map (value_at values) nets)) n.nets
 
 -- What flip-flops with these bits hold behind the edge: the value of the net where the enable's is 1, and else the bit.
 abbrev pub after_edge : List Bool → List Flop → List Bool → List Bool
-after_edge values [] bits = []
-after_edge values (f ∷ fs) [] = []
-after_edge values (f ∷ fs) (bit ∷ bits) = (if value_at values f.enable then value_at values f.net else bit) ∷ after_edge values fs bits
+after_edge values flops bits = zip2 (λ f bit. if value_at values f.enable then value_at values f.net else bit) flops bits
 
 -- the bits in the flip-flops behind the edge, where these are the bits before it and the values of the nets
 abbrev pub next_state : NetlistValue → List Bool → List Bool → List Bool

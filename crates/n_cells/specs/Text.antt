@@ -1,7 +1,7 @@
 -- The one spelling of a netlist in each format.
-use Rattle.std.specs.Prelude.{ℕ, ◌^◌, List, [], ◌∷◌, ◌++◌, length, flat_map, codes, Option, None, Some, Bool, true, false}
+use Rattle.std.specs.Prelude.{ℕ, ◌^◌, List, [], ◌∷◌, ◌++◌, length, flat_map, codes, Option, None, Some}
 use Rattle.lz_base.specs.declared.name.Port.{Port}
-use Rattle.lz_lines.specs.Fields.{field, number, hex}
+use Rattle.lz_lines.specs.Fields.{field, number, hex, bit}
 use Rattle.n_cells.specs.declared.format.Format.{Format}
 use Rattle.n_cells.specs.declared.format.Format.TheVariants.{One, Two}
 use Rattle.n_cells.specs.declared.netlist.Flop.{Flop}
@@ -18,14 +18,10 @@ clock_line (Some name) = codes "clock" ++ field name ++ 10 ∷ []
 abbrev pub input_line : Port → List ℕ
 input_line p = codes "input" ++ field p.name ++ number p.width ++ 10 ∷ []
 
-abbrev pub bit_digit : Bool → List ℕ
-bit_digit false = codes " 0"
-bit_digit true = codes " 1"
-
 -- ff BIT NET, and in format 2 ENABLE
 abbrev pub flop_line : Format → Flop → List ℕ
-flop_line One f = codes "ff" ++ bit_digit f.first ++ number f.net ++ 10 ∷ []
-flop_line Two f = codes "ff" ++ bit_digit f.first ++ number f.net ++ number f.enable ++ 10 ∷ []
+flop_line One f = codes "ff" ++ bit f.first ++ number f.net ++ 10 ∷ []
+flop_line Two f = codes "ff" ++ bit f.first ++ number f.net ++ number f.enable ++ 10 ∷ []
 
 -- lut K NET .. TABLE, or carry NET NET NET
 abbrev pub cell_line : Stored → List ℕ

@@ -1,10 +1,6 @@
--- What contracts see of a netlist and of a maker.
-use Rattle.n_cells.specs.declared.netlist.Netlist.TheInside as netlist
-use Rattle.n_cells.specs.declared.netlist.NetlistMaker.TheInside as maker
+-- What contracts see of a netlist's lines.
+use Rattle.n_cells.specs.declared.netlist.Lines.{Lines}
 use Rattle.n_cells.specs.Netlist.{NetlistValue}
 
-abbrev pub netlist_value : netlist.Inside → NetlistValue
-netlist_value n = record { name = n.name; clock = n.clock; inputs = n.inputs; flops = n.flops; cells = n.cells; outputs = n.outputs; nets = n.nets }
-
-abbrev pub maker_value : maker.Inside → NetlistValue
-maker_value n = record { name = n.name; clock = n.clock; inputs = n.inputs; flops = n.flops; cells = n.cells; outputs = n.outputs; nets = n.nets }
+abbrev pub lines_value : Lines → NetlistValue
+lines_value l = record { name = l.name; clock = l.clock; inputs = l.inputs; flops = l.flops; cells = l.cells; outputs = l.outputs; nets = l.nets }

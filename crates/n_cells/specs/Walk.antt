@@ -3,10 +3,11 @@ use Rattle.std.specs.Prelude.{List, [], ◌∷◌, ◌++◌, Bool, true, false}
 use Rattle.std.specs.Bool.{xor}
 use Rattle.lz_base.specs.Bits.{words_bits}
 use Rattle.lz_base.specs.WordValue.{WordValue}
+use Rattle.lz_circuit.specs.Values.{value_at, majority}
 use Rattle.n_cells.specs.declared.netlist.Stored.{Stored}
 use Rattle.n_cells.specs.declared.netlist.Stored.TheVariants.{Lut, Carry}
 use Rattle.n_cells.specs.Netlist.{NetlistValue}
-use Rattle.n_cells.specs.Run.{value_at, index_of, table_bit, majority}
+use Rattle.n_cells.specs.Run.{index_of, table_bit}
 
 -- the values that a cell adds behind those that it reads
 abbrev pub cell_values : List Bool → Stored → List Bool

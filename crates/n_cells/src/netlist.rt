@@ -3,7 +3,8 @@ ghost use Rattle.std.specs.Option.{option_copied};
 ghost use Rattle.lz_base.specs.Names.{IsNew};
 ghost use Rattle.n_cells.specs.Cell.{stored_of};
 ghost use Rattle.n_cells.specs.Leaves.{most_leaves};
-ghost use Rattle.n_cells.specs.Netlist.{HasShape, HaveWidths, names_of, net_count, AllBelow, FlopsBelow, IsWellFormed};
+ghost use Rattle.lz_circuit.specs.Lines.{HaveWidths};
+ghost use Rattle.n_cells.specs.Netlist.{HasShape, names_of, nets_of, net_count, AllBelow, FlopsBelow, IsWellFormed};
 
 use crate::leaves::Leaves;
 use lz_base::{Items, Name, Num, OutOfMemory, Port};
@@ -27,18 +28,30 @@ pub enum Cell<'a> {
     Carry(Num, Num, Num),
 }
 
+impl Cell<'_> {
+    /// How many nets it makes.
+    pub fn nets(self) -> u32
+        ensures { result ≡ nets_of (stored_of self.entry) }
+    {
+        match self {
+            Cell::Lut {
+                leaves: _,
+                table: _,
+            } => 1,
+            Cell::Carry(_, _, _) => 2,
+        }
+    }
+}
+
 #[derive(Debug, Drop)]
 enum Stored {
     Lut { leaves: Leaves, table: u64 },
     Carry(Num, Num, Num),
 }
 
-/// A netlist, which is well formed.
-///
-/// Its nets are numbered: 0 is the constant 0, 1 the constant 1, then come the bits of the inputs in order, bit 0 of
-/// each first, then one net for each flip-flop, then one for each look-up table and two for each carry cell.
+// The lines of a netlist. Each output has its port, and in `nets` its nets, bit 0 first.
 #[derive(Debug, Drop)]
-pub struct Netlist {
+struct Lines {
     name: Name,
     clock: Option<Name>,
     inputs: Items<Port>,
@@ -48,16 +61,25 @@ pub struct Netlist {
     nets: Items<Items<Num>>,
 }
 
+/// A netlist, which is well formed.
+///
+/// Its nets are numbered: 0 is the constant 0, 1 the constant 1, then come the bits of the inputs in order, bit 0 of
+/// each first, then one net for each flip-flop, then one for each look-up table and two for each carry cell.
+#[derive(Debug, Drop)]
+pub struct Netlist {
+    lines: Lines,
+}
+
 impl Model for Netlist {
     ghost use Rattle.n_cells.specs.Netlist.{NetlistValue, IsWellFormed};
 
     ghost Value = { NetlistValue };
 
-    ghost use Rattle.n_cells.specs.Views.{netlist_value};
+    ghost use Rattle.n_cells.specs.Views.{lines_value};
 
-    ghost view = { netlist_value };
+    ghost view = { λ n. lines_value n.lines };
 
-    ghost invariant = { λ n. IsWellFormed (netlist_value n) };
+    ghost invariant = { λ n. IsWellFormed (lines_value n.lines) };
 }
 
 impl Netlist {
@@ -66,14 +88,14 @@ impl Netlist {
         ensures name { result.now ≡ self.now.name }
         ensures formed { IsWellFormed self.now }
     {
-        &self.name
+        &self.lines.name
     }
 
     /// The name of the clock, where there is one.
     pub fn clock(&self) -> Option<&Name>
         ensures { option_copied result ≡ self.now.clock }
     {
-        self.clock.as_ref()
+        self.lines.clock.as_ref()
     }
 
     /// The inputs in order, each of 1 to 128 bits.
@@ -81,7 +103,7 @@ impl Netlist {
         ensures ports { result.now ≡ self.now.inputs }
         ensures widths { HaveWidths self.now.inputs }
     {
-        self.inputs.as_slice()
+        self.lines.inputs.as_slice()
     }
 
     /// The flip-flops in order. The net and the enable of each are there.
@@ -89,7 +111,7 @@ impl Netlist {
         ensures flops { result.now ≡ self.now.flops }
         ensures there { FlopsBelow (net_count self.now) self.now.flops }
     {
-        self.flops.as_slice()
+        self.lines.flops.as_slice()
     }
 
     /// The number of cells.
@@ -97,7 +119,7 @@ impl Netlist {
         ensures count { result ≡ length self.now.cells }
         ensures formed { IsWellFormed self.now }
     {
-        self.cells.len()
+        self.lines.cells.len()
     }
 
     /// The cell at an index: a look-up table has at most six leaves, and a table below 2^(2^leaves).
@@ -107,7 +129,7 @@ impl Netlist {
         ensures cell { slice_get self.now.cells index ≡ Some (stored_of result) }
         ensures shape { HasShape (stored_of result) }
     {
-        cell_at(self.cells.as_slice(), index)
+        cell_at(self.lines.cells.as_slice(), index)
     }
 
     /// The outputs in order, each of 1 to 128 bits. `output_nets` has the nets of each.
@@ -117,7 +139,7 @@ impl Netlist {
         ensures widths { HaveWidths self.now.outputs }
         ensures filled { length self.now.outputs ≡ length self.now.nets }
     {
-        self.outputs.as_slice()
+        self.lines.outputs.as_slice()
     }
 
     /// The nets of an output, 1 to 128 of them, bit 0 first. They are there.
@@ -129,7 +151,7 @@ impl Netlist {
         ensures high { length result.now ≤ 128 }
         ensures there { AllBelow (net_count self.now) result.now }
     {
-        nets_at(self.nets.as_slice(), index)
+        nets_at(self.lines.nets.as_slice(), index)
     }
 }
 
@@ -161,13 +183,7 @@ fn cell_at(cells: &[Stored], index: usize) -> Cell<'_>
 #[derive(Debug, Drop)]
 pub struct NetlistMaker {
     alloc: Global,
-    name: Name,
-    clock: Option<Name>,
-    inputs: Items<Port>,
-    flops: Items<Flop>,
-    cells: Items<Stored>,
-    outputs: Items<Port>,
-    nets: Items<Items<Num>>,
+    lines: Lines,
 }
 
 impl Model for NetlistMaker {
@@ -175,11 +191,11 @@ impl Model for NetlistMaker {
 
     ghost Value = { NetlistValue };
 
-    ghost use Rattle.n_cells.specs.Views.{maker_value};
+    ghost use Rattle.n_cells.specs.Views.{lines_value};
 
-    ghost view = { maker_value };
+    ghost view = { λ n. lines_value n.lines };
 
-    ghost invariant = { λ n. IsBegun (maker_value n) };
+    ghost invariant = { λ n. IsBegun (lines_value n.lines) };
 }
 
 impl NetlistMaker {
@@ -187,8 +203,7 @@ impl NetlistMaker {
     pub fn new(alloc: Global, name: Name, clock: Option<Name>) -> NetlistMaker
         ensures { result ≡ record { name = name; clock = clock; inputs = []; flops = []; cells = []; outputs = []; nets = [] } }
     {
-        NetlistMaker {
-            alloc,
+        let lines = Lines {
             name,
             clock,
             inputs: Items::new(alloc),
@@ -196,7 +211,8 @@ impl NetlistMaker {
             cells: Items::new(alloc),
             outputs: Items::new(alloc),
             nets: Items::new(alloc),
-        }
+        };
+        NetlistMaker { alloc, lines }
     }
 
     /// Appends an input of 1 to 128 bits under a new name.
@@ -210,7 +226,7 @@ impl NetlistMaker {
         ensures ok { OnOk result (self.new ≡ record self.old { inputs = self.old.inputs ++ port ∷ [] }) }
         ensures err { OnErr result (self.new ≡ self.old) }
     {
-        self.inputs.push(port)?;
+        self.lines.inputs.push(port)?;
         Ok(())
     }
 
@@ -222,7 +238,7 @@ impl NetlistMaker {
         ensures ok { OnOk result (self.new ≡ record self.old { flops = self.old.flops ++ record { first = first; net = net; enable = enable } ∷ [] }) }
         ensures err { OnErr result (self.new ≡ self.old) }
     {
-        self.flops.push(Flop { first, net, enable })?;
+        self.lines.flops.push(Flop { first, net, enable })?;
         Ok(())
     }
 
@@ -236,7 +252,7 @@ impl NetlistMaker {
         ensures err { OnErr result (self.new ≡ self.old) }
     {
         let leaves = Leaves::new(leaves);
-        self.cells.push(Stored::Lut { leaves, table })?;
+        self.lines.cells.push(Stored::Lut { leaves, table })?;
         Ok(())
     }
 
@@ -249,7 +265,7 @@ impl NetlistMaker {
         ensures ok { OnOk result (self.new ≡ record self.old { cells = self.old.cells ++ Stored.Carry a b c ∷ [] }) }
         ensures err { OnErr result (self.new ≡ self.old) }
     {
-        self.cells.push(Stored::Carry(a, b, c))?;
+        self.lines.cells.push(Stored::Carry(a, b, c))?;
         Ok(())
     }
 
@@ -264,11 +280,11 @@ impl NetlistMaker {
     {
         let width = nets.len() as u32;
         let nets = Items::from_slice(self.alloc, nets)?;
-        self.nets.push(nets)?;
-        match self.outputs.push(Port { name, width }) {
+        self.lines.nets.push(nets)?;
+        match self.lines.outputs.push(Port { name, width }) {
             Ok(()) => Ok(()),
             Err(_) => {
-                self.nets.pop();
+                self.lines.nets.pop();
                 Err(OutOfMemory)
             }
         }
@@ -280,24 +296,7 @@ impl NetlistMaker {
         ensures same { result ≡ self }
         ensures formed { IsWellFormed result }
     {
-        let NetlistMaker {
-            alloc: _,
-            name,
-            clock,
-            inputs,
-            flops,
-            cells,
-            outputs,
-            nets,
-        } = self;
-        Netlist {
-            name,
-            clock,
-            inputs,
-            flops,
-            cells,
-            outputs,
-            nets,
-        }
+        let NetlistMaker { alloc: _, lines } = self;
+        Netlist { lines }
     }
 }

@@ -1,7 +1,8 @@
 -- A cell's value from those of the nets that it reads.
 use Rattle.std.proofs.Common.{◌≡◌, ◌<◌, ◌≤◌, ◌^◌, ◌+◌, ◌*◌, ℕ, zero, suc, List, [], ◌∷◌, length, take, drop, get_or, Bool, true, false, if◌then◌else◌, arith, refl, ap, ◌∙◌, add-one}
 use Rattle.n_cells.specs.Netlist.{AllBelow}
-use Rattle.n_cells.specs.Run.{value_at, index_of}
+use Rattle.lz_circuit.specs.Values.{value_at}
+use Rattle.n_cells.specs.Run.{index_of}
 use Rattle.n_sim.specs.Wires.{AreZero}
 use Rattle.std.proofs.Math.ListN.{set}
 use Rattle.std.proofs.Math.Nat.{pow-suc, pow-le-pow_right}

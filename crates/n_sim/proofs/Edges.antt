@@ -3,7 +3,8 @@ use Rattle.std.proofs.Common.{◌≡◌, ◌<◌, ◌≤◌, ◌+◌, ℕ, zero,
 use Rattle.std.proofs.Math.ListN.{set}
 use Rattle.n_cells.specs.declared.netlist.Flop.{Flop}
 use Rattle.n_cells.specs.Netlist.{FlopsBelow}
-use Rattle.n_cells.specs.Run.{value_at, after_edge}
+use Rattle.lz_circuit.specs.Values.{value_at}
+use Rattle.n_cells.specs.Run.{after_edge}
 
 -- the net and the enable of a flip-flop are there
 pub net_there : (count i : ℕ) (fs : List Flop) (d : Flop) → FlopsBelow count fs → i < length fs → (get_or fs i d).net < count

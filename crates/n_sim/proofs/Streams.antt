@@ -10,8 +10,10 @@ use Rattle.std.proofs.lemmas.Nat.Bits.{bit_at_and, bit_at_or, bit_at_xor, bit_at
 use Rattle.std.proofs.lemmas.Bool.Decides.{nat_tests}
 use Rattle.lz_base.specs.Bits.{number_of, low_bits, word_of, words_bits}
 use Rattle.lz_base.specs.declared.name.Port.{Port}
-use Rattle.n_cells.specs.Netlist.{NetlistValue, FillOutputs, port_bits}
-use Rattle.n_cells.specs.Run.{value_at, index_of, majority, shown}
+use Rattle.lz_circuit.specs.Lines.{port_bits}
+use Rattle.n_cells.specs.Netlist.{NetlistValue, FillOutputs}
+use Rattle.lz_circuit.specs.Values.{value_at, majority}
+use Rattle.n_cells.specs.Run.{index_of, shown}
 use Rattle.n_sim.specs.Lanes.{lane, stream}
 use Rattle.n_sim.proofs.Walks.{drop_next}
 use Rattle.n_sim.proofs.Edges.{moving, move_on}

@@ -4,7 +4,8 @@ use Rattle.std.proofs.lemmas.List.{get_or-take, take_all}
 use Rattle.n_cells.specs.declared.netlist.Stored.{Stored}
 use Rattle.n_cells.specs.declared.netlist.Stored.TheVariants.{Lut, Carry}
 use Rattle.n_cells.specs.Netlist.{AllBelow, ReadsBelow, ReadBackwards, nets_of, cell_nets}
-use Rattle.n_cells.specs.Run.{value_at, index_of, table_bit}
+use Rattle.lz_circuit.specs.Values.{value_at}
+use Rattle.n_cells.specs.Run.{index_of, table_bit}
 use Rattle.n_cells.specs.Walk.{cell_values, all_values}
 
 -- the list from an index on

@@ -7,8 +7,8 @@ use Rattle.lz_base.specs.Bits.{low_bits, number_of, word_bits, words_bits}
 use Rattle.lz_base.specs.Ports.{FitPorts}
 use Rattle.lz_base.specs.WordValue.{WordValue}
 use Rattle.lz_base.specs.declared.name.Port.{Port}
-use Rattle.n_cells.specs.Netlist.{port_bits}
-use Rattle.n_cells.specs.Run.{value_at}
+use Rattle.lz_circuit.specs.Lines.{port_bits}
+use Rattle.lz_circuit.specs.Values.{value_at}
 
 -- no bits
 pub low_none : (left value : ℕ) → left ≡ 0 → low_bits left value ≡ []

@@ -1,7 +1,8 @@
 ghost use Rattle.std.specs.Prelude.{◌≡◌, ◌+◌, ◌<◌, ◌≤◌, ◌++◌, length, take, false};
 ghost use Rattle.std.specs.Bool.{xor};
 ghost use Rattle.n_cells.specs.Netlist.{ReadsBelow, ReadBackwards, nets_of, cell_nets};
-ghost use Rattle.n_cells.specs.Run.{value_at, table_bit, majority};
+ghost use Rattle.lz_circuit.specs.Values.{value_at, majority};
+ghost use Rattle.n_cells.specs.Run.{table_bit};
 ghost use Rattle.n_cells.specs.Walk.{cell_values, all_values};
 ghost use Rattle.n_sim.specs.Gates.{kind_cell};
 

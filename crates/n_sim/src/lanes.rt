@@ -2,7 +2,8 @@ ghost use Rattle.std.specs.Prelude.{◌≡◌, ◌+◌, ◌<◌, ◌≤◌, ◌+
 ghost use Rattle.lz_base.specs.Bits.{words_bits};
 ghost use Rattle.lz_base.specs.Ports.{FitPorts};
 ghost use Rattle.lz_base.specs.WordValue.{WordValue};
-ghost use Rattle.n_cells.specs.Netlist.{IsWellFormed, net_count, port_bits, AllBelow, FlopsBelow};
+ghost use Rattle.lz_circuit.specs.Lines.{port_bits};
+ghost use Rattle.n_cells.specs.Netlist.{IsWellFormed, net_count, AllBelow, FlopsBelow};
 ghost use Rattle.n_cells.specs.Run.{IsValuation, shown, first_state, after_edge};
 ghost use Rattle.n_sim.specs.Lanes.{stream, IsCycleOf};
 

@@ -1,7 +1,8 @@
 ghost use Rattle.std.specs.Prelude.{◌≡◌, ◌≤◌, ◌<◌, ℕ, IfOk, length, take, map, false, if◌then◌else◌, slice_index_or};
 ghost use Rattle.n_cells.specs.Leaves.{most_leaves};
 ghost use Rattle.n_cells.specs.Netlist.{AllBelow};
-ghost use Rattle.n_cells.specs.Run.{value_at, index_of, table_bit};
+ghost use Rattle.lz_circuit.specs.Values.{value_at};
+ghost use Rattle.n_cells.specs.Run.{index_of, table_bit};
 ghost use Rattle.n_sim.specs.Lanes.{lane, stream};
 ghost use Rattle.n_sim.specs.Wires.{AreFilled};
 

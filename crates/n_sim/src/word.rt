@@ -1,7 +1,7 @@
 ghost use Rattle.std.specs.Prelude.{◌≡◌, ◌<◌, ◌≤◌, ◌^◌, length, map, if◌then◌else◌};
 ghost use Rattle.lz_base.specs.Bits.{number_of, word_of};
 ghost use Rattle.n_cells.specs.Netlist.{AllBelow};
-ghost use Rattle.n_cells.specs.Run.{value_at};
+ghost use Rattle.lz_circuit.specs.Values.{value_at};
 
 use lz_base::{Num, Word};
 

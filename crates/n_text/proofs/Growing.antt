@@ -6,7 +6,9 @@ use Rattle.lz_base.specs.Names.{IsName}
 use Rattle.n_cells.specs.declared.netlist.Flop.{Flop}
 use Rattle.n_cells.specs.declared.netlist.Stored.{Stored}
 use Rattle.n_cells.specs.declared.netlist.Stored.TheVariants as stored
-use Rattle.n_cells.specs.Netlist.{NetlistValue, HasShape, HaveShapes, HaveWidths, FillOutputs, HasClock}
+use Rattle.lz_circuit.specs.Lines.{HasClock}
+use Rattle.lz_circuit.proofs.Lines.{widths_more, clocked_more}
+use Rattle.n_cells.specs.Netlist.{NetlistValue, HasShape, HaveShapes, FillOutputs}
 use Rattle.n_cells.specs.Text.{clock_line, input_line, flop_line, cell_line, output_line, output_lines}
 use Rattle.n_cells.specs.Form.{bound, leaves_of, HasForm, HasEnable, HasFewLeaves, HaveEnables, HaveFewLeaves}
 use Rattle.n_cells.specs.declared.format.Format.{Format}
@@ -33,10 +35,6 @@ clock_there None [] h e = cc
 clock_there (Some c) [] h e = refl
 clock_there c (f ∷ fs) h e = h
 
-widths_more : (ps : List Port) (p : Port) → HaveWidths ps → 1 ≤ p.width → p.width ≤ 128 → HaveWidths (ps ++ p ∷ [])
-widths_more [] p h low high = (low, high, tt)
-widths_more (q ∷ qs) p h low high = (h.0, h.1, widths_more qs p h.2 low high)
-
 enables_more : (format : Format) (fs : List Flop) (f : Flop) → HaveEnables format fs → HasEnable format f → HaveEnables format (fs ++ f ∷ [])
 enables_more format [] f h one = (one, tt)
 enables_more format (g ∷ gs) f h one = (h.0, enables_more format gs f h.1 one)
@@ -44,10 +42,6 @@ enables_more format (g ∷ gs) f h one = (h.0, enables_more format gs f h.1 one)
 few_more : (most : ℕ) (cs : List Stored) (c : Stored) → HaveFewLeaves most cs → HasFewLeaves most c → HaveFewLeaves most (cs ++ c ∷ [])
 few_more most [] c h one = (one, tt)
 few_more most (d ∷ ds) c h one = (h.0, few_more most ds c h.1 one)
-
-clocked_more : (clock : Option (List ℕ)) (fs : List Flop) (f : Flop) → IsSome clock → HasClock clock (fs ++ f ∷ [])
-clocked_more clock [] f h = h
-clocked_more clock (g ∷ gs) f h = h
 
 clocked_first : (clock : Option (List ℕ)) (name : List ℕ) (fs : List Flop) → HasClock clock fs → HasClock (Some name) fs
 clocked_first clock name [] h = tt

@@ -11,7 +11,7 @@ use Rattle.std.proofs.Math.Nat.{pow-le-pow_right}
 use Rattle.std.proofs.lemmas.List.{length-append}
 use Rattle.std.proofs.lemmas.List.Concat.{flat_map-cons}
 use Rattle.lz_lines.specs.Fields.{AllUpTo, AreNumbers, IsBit, IsHex, IsNameField, IsNumber, IsWord, bit, field, hex, line_end, number}
-use Rattle.lz_lines.specs.Forms.{Anything, Breaks, Done, EndNumbers, IsLineEnd, IsParted, LineOrLast, Obtains, Takes, Then}
+use Rattle.lz_lines.specs.Forms.{Anything, Breaks, Ended, EndNumbers, IsLineEnd, IsParted, LineOrLast, Obtains, Takes, Then}
 use Rattle.lz_lines.specs.Keywords.{OneOf}
 use Rattle.lz_lines.proofs.Forms.{After, after_same, after_start}
 use Rattle.n_cells.specs.declared.format.Format.{Format}
@@ -24,11 +24,11 @@ use Rattle.n_text.specs.declared.line.Key.TheVariants as key
 use Rattle.n_text.specs.declared.line.Line.{Line}
 use Rattle.n_text.specs.declared.line.Line.TheVariants as line
 use Rattle.n_text.specs.Grammar as g
-use Rattle.n_text.specs.Grammar.{most, IsEnable, IsNet, IsNext, IsLine, Ends, Tail, Rest}
+use Rattle.n_text.specs.Grammar.{most, IsEnable, IsNet, IsNext, IsLine, Tail, Rest}
 use Rattle.n_text.specs.Keys.{key_word, keys_of}
 use Rattle.n_text.specs.Raw.{bare, end_line, with_line}
 use Rattle.n_text.proofs.Opening.{opens}
-use Rattle.n_text.proofs.Spelling.{enable_field, ends_in, ends_out}
+use Rattle.n_text.proofs.Spelling.{enable_field}
 
 -- something can stand there
 abbrev pub Some_ : {V : Type 0} → (V → List ℕ → Type 0) → Type 0
@@ -37,8 +37,8 @@ Some_ {V} Is = (v : V) × (text : List ℕ) × Is v text
 some_then : {A V : Type 0} (First : A → List ℕ → Type 0) (Second : A → V → List ℕ → Type 0) (a : A) (text : List ℕ) → First a text → Some_ (Second a) → Some_ (Then First Second)
 some_then First Second a text is rest = (rest.0, text ++ rest.1, (a, text, rest.1, is, rest.2, refl))
 
-pub some_end : {V : Type 0} (known : V) → Some_ (Ends known)
-some_end known = (known, line_end, ends_out known)
+pub some_end : {V : Type 0} (known : V) → Some_ (Ended known)
+some_end known = (known, line_end, (refl, refl))
 
 abbrev a_name : List ℕ
 a_name = 97 ∷ []
@@ -47,10 +47,10 @@ zero_net : IsNet 0 (number 0)
 zero_net = (omega arith, omega arith, refl)
 
 -- a line ends
-pub ends_line : {V : Type 0} (known v : V) (text behind : List ℕ) → Ends known v text → IsLineEnd (text ++ behind)
-ends_line known v text behind is = (behind, ap (λ t. t ++ behind) (ends_in known v text is).1)
+pub ends_line : {V : Type 0} (known v : V) (text behind : List ℕ) → Ended known v text → IsLineEnd (text ++ behind)
+ends_line known v text behind is = (behind, ap (λ t. t ++ behind) is.1)
 
-pub ends_parted : {V : Type 0} (known v : V) (text behind : List ℕ) → Ends known v text → IsParted (text ++ behind)
+pub ends_parted : {V : Type 0} (known v : V) (text behind : List ℕ) → Ended known v text → IsParted (text ++ behind)
 ends_parted known v text behind is = inr (ends_line known v text behind is)
 
 -- a field has its blank
@@ -150,9 +150,6 @@ tail_some format key.Carry = some_then IsNet g.CarrySecond 0 (number 0) zero_net
 tail_some format key.Output = some_then IsNameField g.OutputNets a_name (field a_name) (refl, refl) (nets_some a_name (field a_name) (refl, refl))
 tail_some format key.End = some_end None
 
-pub done_some : {V : Type 0} (v : V) → Some_ (Done v)
-done_some v = (v, [], (refl, refl))
-
 -- An exit by `?`: what a reader of a part broke off, breaks off the whole.
 pub hand_broken : {V X : Type 0} (Whole Behind : V → List ℕ → Type 0) (bytes : List ℕ) (value : X → V) (after : X → List ℕ) (result : Result X Unread) (e : Broken) → IsErrAnd result (λ u. u ≡ unread.Broken e)
     → Breaks Whole Behind bytes e.left → Obtains Whole Behind value after bytes result
@@ -167,13 +164,13 @@ hand_on Is Ends Whole Behind rest bytes seen left value after result part unread
 
 -- the end's line, and the others
 tail_none : (format : Format) (k : Key) (text : List ℕ) → Tail format k None text → (k ≡ key.End) × (text ≡ line_end)
-tail_none format key.Clock text (a, f, b, h, ends, e) = let no = (ends_in (Some (line.Clock a)) None b ends).0 in cc
-tail_none format key.Input text (a, f, b, h, (c, i, j, k, ends, d), e) = let no = (ends_in (Some (line.Input (record { name = a; width = c }))) None j ends).0 in cc
-tail_none format key.Flop text (a, f, b, h, (c, i, j, k, (x, y, z, w, ends, u), d), e) = let no = (ends_in (Some (line.Flop (record { first = a; net = c; enable = x }))) None z ends).0 in cc
-tail_none format key.Lut text (a, f, b, h, (c, i, j, k, (m, (x, y, z, w, ends, u)), d), e) = let no = (ends_in (Some (line.Cell (stored.Lut c x))) None z ends).0 in cc
-tail_none format key.Carry text (a, f, b, h, (c, i, j, k, (x, y, z, w, ends, u), d), e) = let no = (ends_in (Some (line.Cell (stored.Carry a c x))) None z ends).0 in cc
-tail_none format key.Output text (a, f, b, h, (c, i, j, k, ends, d), e) = let no = (ends_in (Some (line.Output (record { name = a; width = length c }) c)) None j ends).0 in cc
-tail_none format key.End text ends = (refl, (ends_in None None text ends).1)
+tail_none format key.Clock text (a, f, b, h, ends, e) = cc ends.0
+tail_none format key.Input text (a, f, b, h, (c, i, j, k, ends, d), e) = cc ends.0
+tail_none format key.Flop text (a, f, b, h, (c, i, j, k, (x, y, z, w, ends, u), d), e) = cc ends.0
+tail_none format key.Lut text (a, f, b, h, (c, i, j, k, (m, (x, y, z, w, ends, u)), d), e) = cc ends.0
+tail_none format key.Carry text (a, f, b, h, (c, i, j, k, (x, y, z, w, ends, u), d), e) = cc ends.0
+tail_none format key.Output text (a, f, b, h, (c, i, j, k, ends, d), e) = cc ends.0
+tail_none format key.End text ends = (refl, ends.1)
 
 end_comes : (ks : List Key) → OneOf key_word key.End ks key.End (key_word key.End)
 end_comes [] = (refl, refl)
@@ -190,7 +187,7 @@ next_line format n bytes = after_same (IsNext format (keys_of n)) (after_start (
     to (Some l) text is = is
 
     from : (v : Option Line) (text : List ℕ) → LineOrLast (IsLine format) g.MayEnd end_line n v text → IsNext format (keys_of n) v text
-    from None text is = (key.End, key_word key.End, line_end, end_comes (keys_of n), ends_out None, is.1)
+    from None text is = (key.End, key_word key.End, line_end, end_comes (keys_of n), (refl, refl), is.1)
     from (Some l) text is = is
 
 pub lines_some : (format : Format) (n : NetlistValue) (l : Line) (text : List ℕ) → IsLine format n l text → (v : NetlistValue) × (more : List ℕ) × Rest format (with_line n l) v more

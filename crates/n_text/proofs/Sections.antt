@@ -8,7 +8,8 @@ use Rattle.n_cells.specs.declared.netlist.Flop.{Flop}
 use Rattle.n_cells.specs.declared.netlist.Stored.{Stored}
 use Rattle.n_cells.specs.declared.netlist.Stored.TheVariants as stored
 use Rattle.n_cells.specs.Form.{bound, leaves_of, HasForm, HaveEnables, HaveFewLeaves, ClockNamed, PortsNamed, CellsBelow}
-use Rattle.n_cells.specs.Netlist.{NetlistValue, HaveShapes, HaveWidths, FillOutputs, FlopsBelow, OutputsBelow, HasClock}
+use Rattle.lz_circuit.specs.Lines.{HaveWidths, HasClock}
+use Rattle.n_cells.specs.Netlist.{NetlistValue, HaveShapes, FillOutputs, FlopsBelow, OutputsBelow}
 use Rattle.n_cells.specs.Text.{clock_line, input_line, flop_line, cell_line, output_line, output_lines}
 use Rattle.n_text.specs.declared.line.Key.TheVariants as key
 use Rattle.n_text.specs.declared.line.Line.{Line}

@@ -1,5 +1,5 @@
 -- How lines are spelled: the grammar's fields, one after another.
-use Rattle.std.proofs.Common.{◌≡◌, ℕ, ◌^◌, ◌<◌, ◌≤◌, List, [], ◌∷◌, ◌++◌, length, flat_map, None, Some, true, false, refl, arith, ap, sym, subst, ◌∙◌, append_assoc}
+use Rattle.std.proofs.Common.{◌≡◌, ℕ, ◌^◌, ◌<◌, ◌≤◌, List, [], ◌∷◌, ◌++◌, length, flat_map, Some, refl, arith, ap, sym, subst, ◌∙◌, append_assoc}
 use Rattle.std.specs.Prelude.{codes}
 use Rattle.lz_base.specs.declared.name.Port.{Port}
 use Rattle.lz_base.specs.Names.{IsName}
@@ -9,7 +9,7 @@ use Rattle.n_cells.specs.declared.format.Format.TheVariants as format_
 use Rattle.n_cells.specs.declared.netlist.Stored.{Stored}
 use Rattle.n_cells.specs.declared.netlist.Stored.TheVariants as stored
 use Rattle.n_cells.specs.declared.netlist.Flop as flop
-use Rattle.n_cells.specs.Text.{bit_digit, clock_line, input_line, flop_line, cell_line, output_line}
+use Rattle.n_cells.specs.Text.{clock_line, input_line, flop_line, cell_line, output_line}
 use Rattle.n_cells.specs.Form.{bound, leaves_of, HasFewLeaves, HasEnable}
 use Rattle.n_cells.specs.Leaves.{most_leaves}
 use Rattle.n_cells.specs.Netlist.{AllBelow, HasShape, ReadsBelow}
@@ -18,7 +18,7 @@ use Rattle.n_text.specs.declared.line.Key.TheVariants as key
 use Rattle.n_text.specs.declared.line.Line.{Line}
 use Rattle.n_text.specs.declared.line.Line.TheVariants.{Clock, Input, Flop, Cell, Output}
 use Rattle.n_text.specs.Keys.{key_word}
-use Rattle.n_text.specs.Grammar.{most, IsEnable, Ends, Tail}
+use Rattle.n_text.specs.Grammar.{most, IsEnable, Tail}
 
 abbrev pub cell_key : Stored → Key
 cell_key (stored.Lut leaves table) = key.Lut
@@ -60,12 +60,6 @@ pub record IsSpelled (format : Format) (k : Key) (line : Line) (text : List ℕ)
   pub fields : HasFields format line
   pub spelled : text ≡ tail_of format line
 
-pub ends_in : {V : Type 0} (known v : V) (text : List ℕ) → Ends known v text → (v ≡ known) × (text ≡ line_end)
-ends_in known v text (w, front, back, is, done, e) = (done.0, e ∙ ap (λ l. l ++ back) is ∙ ap (λ l. line_end ++ l) done.1)
-
-pub ends_out : {V : Type 0} (known : V) → Ends known known line_end
-ends_out known = (tt, line_end, [], refl, (refl, refl), refl)
-
 up_to : (ns : List ℕ) → AllUpTo most ns → AllBelow bound ns
 up_to [] h = tt
 up_to (n ∷ ns) h = (omega (arith, h.0), up_to ns h.1)
@@ -92,43 +86,37 @@ same_line a b e = cc
 -- a line's fields by its word, put together
 pub tail_in : (format : Format) (k : Key) (line : Line) (text : List ℕ) → Tail format k (Some line) text → IsSpelled format k line text
 tail_in format key.Clock line text (name, front, back, named, ends, e) =
-    let last = ends_in (Some (Clock name)) (Some line) back ends in
-    subst (λ (l : Line). IsSpelled format key.Clock l text) (same_line line (Clock name) last.0) (record { kind = refl; fields = named.0; spelled = e ∙ (λ i. named.1 i ++ last.1 i) })
+    subst (λ (l : Line). IsSpelled format key.Clock l text) (same_line line (Clock name) ends.0) (record { kind = refl; fields = named.0; spelled = e ∙ (λ i. named.1 i ++ ends.1 i) })
 tail_in format key.Input line text (name, front, back, named, (width, f, b, sized, ends, d), e) =
     let p : Port = record { name = name; width = width } in
-    let last = ends_in (Some (Input p)) (Some line) b ends in
-    subst (λ (l : Line). IsSpelled format key.Input l text) (same_line line (Input p) last.0)
-    (record { kind = refl; fields = (named.0, sized.0, sized.1); spelled = e ∙ (λ i. named.1 i ++ (d ∙ (λ j. sized.2 j ++ last.1 j)) i) })
+    subst (λ (l : Line). IsSpelled format key.Input l text) (same_line line (Input p) ends.0)
+    (record { kind = refl; fields = (named.0, sized.0, sized.1); spelled = e ∙ (λ i. named.1 i ++ (d ∙ (λ j. sized.2 j ++ ends.1 j)) i) })
 tail_in format key.Flop line text (first, front, back, isbit, (net, f, b, isnet, (enable, g, c, isenable, ends, h), d), e) =
     let made : flop.Flop = record { first = first; net = net; enable = enable } in
-    let last = ends_in (Some (Flop made)) (Some line) c ends in
     let there = enable_in format enable g isenable in
-    subst (λ (l : Line). IsSpelled format key.Flop l text) (same_line line (Flop made) last.0) (record {
+    subst (λ (l : Line). IsSpelled format key.Flop l text) (same_line line (Flop made) ends.0) (record {
       kind = refl;
       fields = (omega (arith, isnet.1), there.0, enable_has format first net enable g isenable);
-      spelled = e ∙ (λ i. isbit i ++ (d ∙ (λ j. isnet.2 j ++ (h ∙ (λ k. there.1 k ++ last.1 k)) j)) i);
+      spelled = e ∙ (λ i. isbit i ++ (d ∙ (λ j. isnet.2 j ++ (h ∙ (λ k. there.1 k ++ ends.1 k)) j)) i);
     })
 tail_in format key.Lut line text (count, front, back, iscount, (leaves, f, b, nets, (enough, (table, g, c, ishex, ends, h)), d), e) =
-    let last = ends_in (Some (Cell (stored.Lut leaves table))) (Some line) c ends in
     let many : count ≡ length leaves = omega (arith, nets.0, nets.1) in
-    subst (λ (l : Line). IsSpelled format key.Lut l text) (same_line line (Cell (stored.Lut leaves table)) last.0) (record {
+    subst (λ (l : Line). IsSpelled format key.Lut l text) (same_line line (Cell (stored.Lut leaves table)) ends.0) (record {
       kind = refl;
       fields = ((few format (length leaves) (subst (λ n. n ≤ leaves_of format) many iscount.1), subst (λ n. table < 2 ^ (2 ^ n)) many ishex.0), subst (λ n. n ≤ leaves_of format) many iscount.1, up_to leaves nets.2);
-      spelled = e ∙ (λ i. (iscount.2 ∙ ap number many) i ++ (d ∙ (λ j. nets.3 j ++ (h ∙ (λ k. (ishex.1 ∙ ap (λ n. field (hex (2 ^ n) table)) many) k ++ last.1 k)) j)) i);
+      spelled = e ∙ (λ i. (iscount.2 ∙ ap number many) i ++ (d ∙ (λ j. nets.3 j ++ (h ∙ (λ k. (ishex.1 ∙ ap (λ n. field (hex (2 ^ n) table)) many) k ++ ends.1 k)) j)) i);
     })
 tail_in format key.Carry line text (x, front, back, isx, (y, f, b, isy, (z, g, c, isz, ends, h), d), e) =
-    let last = ends_in (Some (Cell (stored.Carry x y z))) (Some line) c ends in
-    subst (λ (l : Line). IsSpelled format key.Carry l text) (same_line line (Cell (stored.Carry x y z)) last.0) (record {
+    subst (λ (l : Line). IsSpelled format key.Carry l text) (same_line line (Cell (stored.Carry x y z)) ends.0) (record {
       kind = refl;
       fields = (tt, tt, (omega (arith, isx.1), omega (arith, isy.1), omega (arith, isz.1)));
-      spelled = e ∙ (λ i. isx.2 i ++ (d ∙ (λ j. isy.2 j ++ (h ∙ (λ k. isz.2 k ++ last.1 k)) j)) i);
+      spelled = e ∙ (λ i. isx.2 i ++ (d ∙ (λ j. isy.2 j ++ (h ∙ (λ k. isz.2 k ++ ends.1 k)) j)) i);
     })
 tail_in format key.Output line text (name, front, back, named, (nets, f, b, isnets, ends, d), e) =
     let p : Port = record { name = name; width = length nets } in
-    let last = ends_in (Some (Output p nets)) (Some line) b ends in
-    subst (λ (l : Line). IsSpelled format key.Output l text) (same_line line (Output p nets) last.0)
-    (record { kind = refl; fields = (named.0, refl, isnets.0, isnets.1, up_to nets isnets.2); spelled = e ∙ (λ i. named.1 i ++ (d ∙ (λ j. isnets.3 j ++ last.1 j)) i) })
-tail_in format key.End line text ends = let last = ends_in None (Some line) text ends in cc (last.0)
+    subst (λ (l : Line). IsSpelled format key.Output l text) (same_line line (Output p nets) ends.0)
+    (record { kind = refl; fields = (named.0, refl, isnets.0, isnets.1, up_to nets isnets.2); spelled = e ∙ (λ i. named.1 i ++ (d ∙ (λ j. isnets.3 j ++ ends.1 j)) i) })
+tail_in format key.End line text ends = cc ends.0
 
 enable_out : (format : Format) (enable : ℕ) (first : _) (net : ℕ) → enable < bound → HasEnable format (record { first = first; net = net; enable = enable }) → IsEnable format enable (enable_field format enable)
 enable_out format_.One enable first net small h = (h, refl)
@@ -136,8 +124,8 @@ enable_out format_.Two enable first net small h = (omega arith, omega (arith, sm
 
 -- the same the other way
 pub tail_out : (format : Format) (line : Line) → HasFields format line → Tail format (key_of line) (Some line) (tail_of format line)
-tail_out format (Clock name) h = (name, field name, line_end, (h, refl), ends_out (Some (Clock name)), refl)
-tail_out format (Input p) h = (p.name, field p.name, number p.width ++ line_end, (h.0, refl), (p.width, number p.width, line_end, (h.1, h.2, refl), ends_out (Some (Input p)), refl), refl)
+tail_out format (Clock name) h = (name, field name, line_end, (h, refl), (refl, refl), refl)
+tail_out format (Input p) h = (p.name, field p.name, number p.width ++ line_end, (h.0, refl), (p.width, number p.width, line_end, (h.1, h.2, refl), (refl, refl), refl), refl)
 tail_out format (Flop f) h = (
   f.first,
   bit f.first,
@@ -148,7 +136,7 @@ tail_out format (Flop f) h = (
     number f.net,
     enable_field format f.enable ++ line_end,
     (omega arith, omega (arith, h.0), refl),
-    (f.enable, enable_field format f.enable, line_end, enable_out format f.enable f.first f.net h.1 h.2, ends_out (Some (Flop f)), refl),
+    (f.enable, enable_field format f.enable, line_end, enable_out format f.enable f.first f.net h.1 h.2, (refl, refl), refl),
     refl,
   ),
   refl,
@@ -163,7 +151,7 @@ tail_out format (Cell (stored.Lut leaves table)) h = (
     flat_map number leaves,
     field (hex (2 ^ length leaves) table) ++ line_end,
     (omega arith, omega arith, below leaves h.2, refl),
-    (omega arith, (table, field (hex (2 ^ length leaves) table), line_end, (h.0.1, refl), ends_out (Some (Cell (stored.Lut leaves table))), refl)),
+    (omega arith, (table, field (hex (2 ^ length leaves) table), line_end, (h.0.1, refl), (refl, refl), refl)),
     refl,
   ),
   refl,
@@ -173,7 +161,7 @@ tail_out format (Cell (stored.Carry a b c)) h = (
   number a,
   number b ++ (number c ++ line_end),
   (omega arith, omega (arith, h.2.0), refl),
-  (b, number b, number c ++ line_end, (omega arith, omega (arith, h.2.1), refl), (c, number c, line_end, (omega arith, omega (arith, h.2.2), refl), ends_out (Some (Cell (stored.Carry a b c))), refl), refl),
+  (b, number b, number c ++ line_end, (omega arith, omega (arith, h.2.1), refl), (c, number c, line_end, (omega arith, omega (arith, h.2.2), refl), (refl, refl), refl), refl),
   refl,
 )
 tail_out format (Output p nets) h =
@@ -187,7 +175,7 @@ tail_out format (Output p nets) h =
         flat_map number nets,
         line_end,
         (h.2, h.3, below nets h.4, refl),
-        (tt, line_end, [], refl, (ap (λ q. Some (Output q nets)) (sym port), refl), refl),
+        (ap (λ q. Some (Output q nets)) (sym port), refl),
         refl,
       ),
       refl,
@@ -201,17 +189,11 @@ spelling format (Flop f) = flop_line format f
 spelling format (Cell c) = cell_line c
 spelling format (Output p nets) = output_line p nets
 
-pub bit_is : (b : _) → bit b ≡ bit_digit b
-bit_is false = refl
-bit_is true = refl
-
 -- the lines of flip-flops, and those of cells
 flop_is : (format : Format) (f : flop.Flop) → codes "ff" ++ tail_of format (Flop f) ≡ flop_line format f
-flop_is format_.One f =
-    ap (λ x. codes "ff" ++ (x ++ (number f.net ++ line_end))) (bit_is f.first) ∙ ap (λ x. codes "ff" ++ x) (sym (append_assoc (bit_digit f.first) (number f.net) line_end))
+flop_is format_.One f = ap (λ x. codes "ff" ++ x) (sym (append_assoc (bit f.first) (number f.net) line_end))
 flop_is format_.Two f =
-    ap (λ x. codes "ff" ++ (x ++ (number f.net ++ (number f.enable ++ line_end)))) (bit_is f.first)
-    ∙ ap (λ x. codes "ff" ++ x) (sym (append_assoc (bit_digit f.first) (number f.net) (number f.enable ++ line_end)) ∙ sym (append_assoc (bit_digit f.first ++ number f.net) (number f.enable) line_end))
+    ap (λ x. codes "ff" ++ x) (sym (append_assoc (bit f.first) (number f.net) (number f.enable ++ line_end)) ∙ sym (append_assoc (bit f.first ++ number f.net) (number f.enable) line_end))
 
 cell_is : (c : Stored) → key_word (cell_key c) ++ cell_tail c ≡ cell_line c
 cell_is (stored.Lut leaves table) =

@@ -1,7 +1,7 @@
 -- The lines of a netlist's text, field by field.
 use Rattle.std.specs.Prelude.{◌≡◌, ℕ, ◌-◌, ◌^◌, ◌≤◌, List, [], length, Bool, Option, None, Some, ⊤}
 use Rattle.lz_lines.specs.Fields.{AreNumbers, IsBit, IsHex, IsNameField, IsNumber, IsWord, line_end}
-use Rattle.lz_lines.specs.Forms.{Done, Lines, Then}
+use Rattle.lz_lines.specs.Forms.{Ended, Lines, Then}
 use Rattle.lz_lines.specs.Keywords.{OneOf}
 use Rattle.n_cells.specs.declared.format.Format.{Format}
 use Rattle.n_cells.specs.declared.format.Format.TheVariants.{One, Two}
@@ -27,26 +27,22 @@ abbrev pub IsEnable : Format → ℕ → List ℕ → Type 0
 IsEnable One enable text = (enable ≡ 1) × (text ≡ [])
 IsEnable Two enable text = IsNet enable text
 
--- the end of a line whose fields are known
-abbrev pub Ends : {V : Type 0} → V → V → List ℕ → Type 0
-Ends known = Then (IsWord line_end) (λ _. Done known)
-
 -- a form that comes only behind so many nets
 abbrev pub Counted : {V : Type 0} → ℕ → List ℕ → (V → List ℕ → Type 0) → V → List ℕ → Type 0
 Counted count nets Is value text = (count ≤ length nets) × Is value text
 
 -- what is left of a line behind fields that are known
 abbrev pub ClockEnd : List ℕ → Option Line → List ℕ → Type 0
-ClockEnd name = Ends (Some (Clock name))
+ClockEnd name = Ended (Some (Clock name))
 
 abbrev pub InputEnd : List ℕ → ℕ → Option Line → List ℕ → Type 0
-InputEnd name width = Ends (Some (Input (record { name = name; width = width })))
+InputEnd name width = Ended (Some (Input (record { name = name; width = width })))
 
 abbrev pub InputWidth : List ℕ → Option Line → List ℕ → Type 0
 InputWidth name = Then (IsNumber 1 128) (InputEnd name)
 
 abbrev pub FlopEnd : Bool → ℕ → ℕ → Option Line → List ℕ → Type 0
-FlopEnd first net enable = Ends (Some (Flop (record { first = first; net = net; enable = enable })))
+FlopEnd first net enable = Ended (Some (Flop (record { first = first; net = net; enable = enable })))
 
 abbrev pub FlopEnable : Format → Bool → ℕ → Option Line → List ℕ → Type 0
 FlopEnable format first net = Then (IsEnable format) (FlopEnd first net)
@@ -55,7 +51,7 @@ abbrev pub FlopNet : Format → Bool → Option Line → List ℕ → Type 0
 FlopNet format first = Then IsNet (FlopEnable format first)
 
 abbrev pub LutEnd : List ℕ → ℕ → Option Line → List ℕ → Type 0
-LutEnd leaves table = Ends (Some (Cell (stored.Lut leaves table)))
+LutEnd leaves table = Ended (Some (Cell (stored.Lut leaves table)))
 
 abbrev pub LutTable : ℕ → List ℕ → Option Line → List ℕ → Type 0
 LutTable count leaves = Counted count leaves (Then (IsHex (2 ^ count)) (LutEnd leaves))
@@ -64,7 +60,7 @@ abbrev pub LutLeaves : ℕ → Option Line → List ℕ → Type 0
 LutLeaves count = Then (AreNumbers count count most) (LutTable count)
 
 abbrev pub CarryEnd : ℕ → ℕ → ℕ → Option Line → List ℕ → Type 0
-CarryEnd a b c = Ends (Some (Cell (stored.Carry a b c)))
+CarryEnd a b c = Ended (Some (Cell (stored.Carry a b c)))
 
 abbrev pub CarryLast : ℕ → ℕ → Option Line → List ℕ → Type 0
 CarryLast a b = Then IsNet (CarryEnd a b)
@@ -73,7 +69,7 @@ abbrev pub CarrySecond : ℕ → Option Line → List ℕ → Type 0
 CarrySecond a = Then IsNet (CarryLast a)
 
 abbrev pub OutputEnd : List ℕ → List ℕ → Option Line → List ℕ → Type 0
-OutputEnd name nets = Ends (Some (Output (record { name = name; width = length nets }) nets))
+OutputEnd name nets = Ended (Some (Output (record { name = name; width = length nets }) nets))
 
 abbrev pub OutputNets : List ℕ → Option Line → List ℕ → Type 0
 OutputNets name = Then (AreNumbers 1 128 most) (OutputEnd name)
@@ -86,7 +82,7 @@ Tail format key.Flop = Then IsBit (FlopNet format)
 Tail format key.Lut = Then (IsNumber 0 (leaves_of format)) LutLeaves
 Tail format key.Carry = Then IsNet CarrySecond
 Tail format key.Output = Then IsNameField OutputNets
-Tail format key.End = Ends None
+Tail format key.End = Ended None
 
 -- a line that may come next, or none for the end's
 abbrev pub IsNext : Format → List Key → Option Line → List ℕ → Type 0

@@ -1,7 +1,7 @@
 ghost use Rattle.std.specs.Prelude.{◌≡◌, ◌≤◌, ◌<◌, ◌+◌, ◌*◌, ◌^◌, length};
-ghost use Rattle.n_cells.specs.Netlist.{HaveWidths, port_bits, first_net, cell_nets};
+ghost use Rattle.lz_circuit.specs.Lines.{HaveWidths, port_bits};
+ghost use Rattle.n_cells.specs.Netlist.{first_net, cell_nets};
 
-use crate::judging::nets_of;
 use crate::raw_cell::RawCell;
 use lz_base::Port;
 use n_cells::Flop;
@@ -35,7 +35,7 @@ pub(crate) fn count_nets(cells: &[RawCell]) -> u128
 {
     let mut nets = 0;
     for cell in cells {
-        nets += nets_of(cell.cell());
+        nets += u128::from(cell.cell().nets());
     }
     nets
 }

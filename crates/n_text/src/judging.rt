@@ -2,7 +2,7 @@ ghost use Rattle.std.specs.Prelude.{◌≡◌, ◌≤◌, ◌<◌, ◌+◌, ◌*
 ghost use Rattle.lz_lines.specs.Fields.{number};
 ghost use Rattle.n_cells.specs.Cell.{stored_of};
 ghost use Rattle.n_cells.specs.Leaves.{most_leaves};
-ghost use Rattle.n_cells.specs.Netlist.{nets_of, cell_nets, HasShape, HaveShapes};
+ghost use Rattle.n_cells.specs.Netlist.{cell_nets, HasShape, HaveShapes};
 ghost use Rattle.n_cells.specs.Text.{cell_line, flop_line};
 ghost use Rattle.n_text.specs.Answers.{Judges};
 ghost use Rattle.n_text.specs.Referred.{flop_nets, wrong_nets, wrong_cell, wrong_cells, wrong_flops};
@@ -75,18 +75,6 @@ fn digit_count(leaves: usize) -> usize
     ((1usize << leaves) + 3) / 4
 }
 
-pub(crate) fn nets_of(cell: Cell<'_>) -> u128
-    ensures { result ≡ nets_of (stored_of cell.entry) }
-{
-    match cell {
-        Cell::Lut {
-            leaves: _,
-            table: _,
-        } => 1,
-        Cell::Carry(_, _, _) => 2,
-    }
-}
-
 // Judges the lines of cells, the first of which begins at this place and has this net, and gives the place behind them.
 pub(crate) fn judge_cells(cells: &[RawCell], first: u128, at: usize) -> Result<usize, Stop>
     requires shapes { HaveShapes cells.now }
@@ -98,7 +86,7 @@ pub(crate) fn judge_cells(cells: &[RawCell], first: u128, at: usize) -> Result<u
     let mut at = at;
     for cell in cells {
         at = judge_cell(cell.cell(), next, at)?;
-        next += nets_of(cell.cell());
+        next += u128::from(cell.cell().nets());
     }
     Ok(at)
 }

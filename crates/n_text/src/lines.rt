@@ -4,14 +4,14 @@ ghost use Rattle.lz_lines.specs.Forms.{Anything, Obtains, Parted};
 ghost use Rattle.lz_lines.specs.Keywords.{all_apart};
 ghost use Rattle.n_cells.specs.Form.{leaves_of};
 ghost use Rattle.n_cells.specs.Leaves.{most_leaves};
-ghost use Rattle.n_text.specs.Grammar.{Ends, IsEnable, IsNext, Tail};
+ghost use Rattle.n_text.specs.Grammar.{IsEnable, IsNext, Tail};
 ghost use Rattle.n_text.specs.Keys.{key_word};
 
 use crate::line::{Key, Line};
 use crate::raw_cell::RawCell;
 use lz_base::{Items, Name, Num, Port};
 use lz_lines::{
-    Unread, read_bit, read_hex, read_key, read_name, read_number, read_numbers, read_word,
+    Unread, end_line, read_bit, read_hex, read_key, read_name, read_number, read_numbers,
 };
 use n_cells::{Flop, Format, LEAVES};
 use std::alloc::Global;
@@ -24,19 +24,11 @@ pub(crate) fn read_copy<'a>(alloc: Global, bytes: &'a [u8]) -> Result<(Name, &'a
     Ok((Name::new(alloc, name)?, rest))
 }
 
-// Takes the end of a line whose fields were read.
-fn end_line(bytes: &[u8], line: Option<Line>) -> Result<(Option<Line>, &[u8]), Unread>
-    ensures { Obtains (Ends line) Anything (λ r. r.0) (λ r. r.1.now) bytes.now result }
-{
-    let rest = read_word(bytes, b"\n")?;
-    Ok((line, rest))
-}
-
 fn read_clock<'a>(alloc: Global, bytes: &'a [u8]) -> Result<(Option<Line>, &'a [u8]), Unread>
     ensures { Obtains (Tail Format.Two Key.Clock) Anything (λ r. r.0) (λ r. r.1.now) bytes.now result }
 {
     let (name, rest) = read_copy(alloc, bytes)?;
-    end_line(rest, Some(Line::Clock(name)))
+    end_line(Some(Line::Clock(name)), rest)
 }
 
 fn read_input<'a>(alloc: Global, bytes: &'a [u8]) -> Result<(Option<Line>, &'a [u8]), Unread>
@@ -48,7 +40,7 @@ fn read_input<'a>(alloc: Global, bytes: &'a [u8]) -> Result<(Option<Line>, &'a [
         name,
         width: width as u32,
     };
-    end_line(rest, Some(Line::Input(port)))
+    end_line(Some(Line::Input(port)), rest)
 }
 
 // Takes the enable of a flip-flop, which is the constant 1 where the format leaves it out.
@@ -68,7 +60,7 @@ fn read_flop(format: Format, bytes: &[u8]) -> Result<(Option<Line>, &[u8]), Unre
     let (net, rest) = read_number(rest, 0, u128::MAX)?;
     let (enable, rest) = read_enable(format, rest)?;
     let flop = Flop { first, net, enable };
-    end_line(rest, Some(Line::Flop(flop)))
+    end_line(Some(Line::Flop(flop)), rest)
 }
 
 // The most leaves of a look-up table.
@@ -100,7 +92,7 @@ fn read_lut<'a>(
     let (count, rest) = read_number(bytes, 0, most_leaves(format) as u128)?;
     let rest = read_numbers(rest, count as usize, count as usize, u128::MAX, nets)?;
     let (table, rest) = read_hex(rest, table_width(count as u32))?;
-    end_line(rest, Some(Line::Cell(RawCell::lut(nets, table as u64))))
+    end_line(Some(Line::Cell(RawCell::lut(nets, table as u64))), rest)
 }
 
 fn read_carry(bytes: &[u8]) -> Result<(Option<Line>, &[u8]), Unread>
@@ -109,7 +101,7 @@ fn read_carry(bytes: &[u8]) -> Result<(Option<Line>, &[u8]), Unread>
     let (a, rest) = read_number(bytes, 0, u128::MAX)?;
     let (b, rest) = read_number(rest, 0, u128::MAX)?;
     let (c, rest) = read_number(rest, 0, u128::MAX)?;
-    end_line(rest, Some(Line::Cell(RawCell::carry(a, b, c))))
+    end_line(Some(Line::Cell(RawCell::carry(a, b, c))), rest)
 }
 
 fn read_output<'a>(
@@ -125,10 +117,8 @@ fn read_output<'a>(
         name,
         width: nets.len() as u32,
     };
-    end_line(
-        rest,
-        Some(Line::Output(port, Items::from_slice(alloc, nets)?)),
-    )
+    let nets = Items::from_slice(alloc, nets)?;
+    end_line(Some(Line::Output(port, nets)), rest)
 }
 
 /// Takes a line whose word is one of these, or the end's, for which it gives none. The vector is room for its nets.
@@ -163,6 +153,6 @@ fn read_tail<'a>(
         Key::Lut => read_lut(format, bytes, nets),
         Key::Carry => read_carry(bytes),
         Key::Output => read_output(alloc, bytes, nets),
-        Key::End => end_line(bytes, None),
+        Key::End => end_line(None, bytes),
     }
 }

@@ -1,7 +1,8 @@
 ghost use Rattle.std.specs.Prelude.{◌≡◌, ◌++◌, [], ◌∷◌, List, map, OnOk, IfOk};
 ghost use Rattle.lz_base.specs.Names.{AreDistinct};
 ghost use Rattle.n_cells.specs.Cell.{stored_of};
-ghost use Rattle.n_cells.specs.Netlist.{names_of, HasShape, ReadsBelow, net_count, HasClock, HaveWidths, HaveShapes, FillOutputs, ReadBackwards, OutputsBelow, IsWellFormed};
+ghost use Rattle.lz_circuit.specs.Lines.{HasClock, HaveWidths};
+ghost use Rattle.n_cells.specs.Netlist.{names_of, HasShape, ReadsBelow, net_count, HaveShapes, FillOutputs, ReadBackwards, OutputsBelow, IsWellFormed};
 
 use crate::raw::Raw;
 use crate::raw_cell::RawCell;

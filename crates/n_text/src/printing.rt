@@ -42,7 +42,6 @@ fn push_inputs(out: &mut Vec<u8>, ports: &[Port]) -> Result<(), OutOfMemory>
     Ok(())
 }
 
-#[tactic(auto, using(crate::proofs::Spelling::bit_is))]
 fn push_flop(out: &mut Vec<u8>, flop: &Flop) -> Result<(), OutOfMemory>
     ensures text { OnOk result (out.new.items ≡ out.old.items ++ flop_line Format.Two flop.now) }
     ensures below { OnOk result (flop.now.net < bound) }

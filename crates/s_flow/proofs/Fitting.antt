@@ -7,7 +7,8 @@ use Rattle.lz_base.specs.Bits.{word_bits, words_bits}
 use Rattle.lz_base.specs.WordValue.{WordValue}
 use Rattle.lz_base.specs.Ports.{FitPorts}
 use Rattle.lz_base.specs.declared.name.Port.{Port}
-use Rattle.n_cells.specs.Netlist.{NetlistValue, HaveWidths, port_bits}
+use Rattle.lz_circuit.specs.Lines.{HaveWidths, port_bits}
+use Rattle.n_cells.specs.Netlist.{NetlistValue}
 use Rattle.n_cells.specs.Run.{IsValuation, Runs, shown, next_state}
 use Rattle.t_trace.specs.Widths.{AreWidths, FitWidths, CyclesFit}
 use Rattle.s_flow.specs.Simulation.{widths_of}

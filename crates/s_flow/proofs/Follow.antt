@@ -11,8 +11,10 @@ use Rattle.lz_base.specs.WordValue.{WordValue}
 use Rattle.lz_machine.specs.Machine.{Lasts, Realises}
 use Rattle.lz_machine.proofs.Laws.{Steps, follows_by}
 use Rattle.n_cells.specs.AsMachine.{NetlistDoes, netlist_machine}
-use Rattle.n_cells.specs.Netlist.{NetlistValue, IsWellFormed, port_bits, first_net, cell_nets}
-use Rattle.n_cells.specs.Run.{IsValuation, CellsHold, value_at, shown, after_edge, next_state, first_state, table_bit}
+use Rattle.lz_circuit.specs.Lines.{port_bits}
+use Rattle.n_cells.specs.Netlist.{NetlistValue, IsWellFormed, first_net, cell_nets}
+use Rattle.lz_circuit.specs.Values.{value_at}
+use Rattle.n_cells.specs.Run.{IsValuation, CellsHold, shown, after_edge, next_state, first_state, table_bit}
 use Rattle.n_cells.specs.declared.netlist.Flop.{Flop}
 use Rattle.n_cells.specs.declared.netlist.Stored.TheVariants.{Lut}
 use Rattle.v_syntax.specs.declared.small.SmallOperand.{SmallOperand}

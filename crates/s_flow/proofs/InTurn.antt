@@ -7,8 +7,10 @@ use Rattle.lz_base.specs.Bits.{low_bits, word_bits, words_bits, number_of, word_
 use Rattle.lz_base.specs.Ports.{FitPorts}
 use Rattle.lz_base.specs.WordValue.{WordValue}
 use Rattle.lz_base.specs.declared.name.Port.{Port}
-use Rattle.n_cells.specs.Netlist.{NetlistValue, IsWellFormed, HaveWidths, FillOutputs, port_bits}
-use Rattle.n_cells.specs.Run.{IsValuation, Runs, shown, next_state, first_state, value_at}
+use Rattle.lz_circuit.specs.Lines.{HaveWidths, port_bits}
+use Rattle.n_cells.specs.Netlist.{NetlistValue, IsWellFormed, FillOutputs}
+use Rattle.lz_circuit.specs.Values.{value_at}
+use Rattle.n_cells.specs.Run.{IsValuation, Runs, shown, next_state, first_state}
 use Rattle.n_sim.specs.Lanes.{lane, stream, IsCycleOf}
 use Rattle.s_flow.specs.SideBySide.{words_at, lines_from, IsTurn}
 use Rattle.s_flow.specs.Simulation.{every, RunsInTurn}

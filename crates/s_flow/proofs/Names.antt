@@ -9,7 +9,7 @@ use Rattle.v_syntax.specs.declared.small.SmallPort.{SmallPort}
 use Rattle.v_syntax.specs.declared.small.SmallPort.TheVariants.{Input, Register}
 use Rattle.v_syntax.specs.Small.{input_names, register_names, port_names}
 use Rattle.v_meaning.specs.Cycle.{bit_named, bit_ports}
-use Rattle.n_cells.specs.Run.{value_at}
+use Rattle.lz_circuit.specs.Values.{value_at}
 use Rattle.s_flow.specs.Made.{place_of, net_among, names_in}
 
 -- equal names are found equal

@@ -8,7 +8,7 @@ use Rattle.std.proofs.lemmas.Bool.Decides.{nat_tests}
 use Rattle.lz_base.specs.Bits.{bit_of, low_bits, word_bits, words_bits, number_of, word_of}
 use Rattle.lz_base.specs.WordValue.{WordValue}
 use Rattle.lz_base.specs.declared.name.Port.{Port}
-use Rattle.n_cells.specs.Netlist.{HaveWidths, port_bits}
+use Rattle.lz_circuit.specs.Lines.{HaveWidths, port_bits}
 use Rattle.n_sim.specs.Lanes.{lane, stream}
 use Rattle.s_flow.specs.SideBySide.{words_at}
 

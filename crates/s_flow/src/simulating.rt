@@ -1,6 +1,6 @@
 ghost use Rattle.std.specs.Prelude.{◌≡◌, List, Bool, IfOk};
 ghost use Rattle.lz_base.specs.Ports.{FitPorts};
-ghost use Rattle.n_cells.specs.Netlist.{HaveWidths};
+ghost use Rattle.lz_circuit.specs.Lines.{HaveWidths};
 ghost use Rattle.n_cells.specs.Run.{IsValuation, Runs, first_state, next_state, shown};
 ghost use Rattle.t_trace.specs.Widths.{AreWidths, CyclesFit};
 ghost use Rattle.s_flow.specs.Simulation.{widths_of};

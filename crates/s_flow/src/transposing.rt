@@ -1,6 +1,6 @@
 ghost use Rattle.std.specs.Prelude.{◌≡◌, ◌≢◌, ◌<◌, ◌≤◌, ◌+◌, ◌++◌, ◌^◌, ◌==◌, ℕ, length, take, IfOk};
 ghost use Rattle.lz_base.specs.Bits.{bit_of, word_bits, words_bits, word_of, number_of};
-ghost use Rattle.n_cells.specs.Netlist.{HaveWidths, port_bits};
+ghost use Rattle.lz_circuit.specs.Lines.{HaveWidths, port_bits};
 ghost use Rattle.n_sim.specs.Lanes.{stream};
 ghost use Rattle.s_flow.specs.SideBySide.{words_at};
 

@@ -1,7 +1,8 @@
 ghost use Rattle.std.specs.Prelude.{◌≡◌, ◌≤◌, ◌<◌, ◌++◌, ℕ, List, length, Some, slice_get, IfOk, OnOk};
 ghost use Rattle.lz_base.specs.Bits.{words_bits};
 ghost use Rattle.lz_base.specs.WordValue.{WordValue};
-ghost use Rattle.n_cells.specs.Netlist.{HaveWidths, IsWellFormed, port_bits};
+ghost use Rattle.lz_circuit.specs.Lines.{HaveWidths, port_bits};
+ghost use Rattle.n_cells.specs.Netlist.{IsWellFormed};
 ghost use Rattle.n_sim.specs.Lanes.{stream};
 ghost use Rattle.t_trace.specs.Widths.{CyclesFit};
 ghost use Rattle.s_flow.specs.Simulation.{RunsInTurn, widths_of};

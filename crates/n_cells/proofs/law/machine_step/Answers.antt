@@ -1,5 +1,11 @@
-use Rattle.n_cells.proofs.Machine.{step_there, step_alone, length_next}
+use Rattle.n_cells.proofs.Machine.{does_there, does_alone, length_next}
 use Rattle.n_cells.proofs.law.machine_step.Goals as goal
 
-pub returns : goal.returns
-returns c = record { does = step_there; alone = step_alone; bits = length_next }
+pub returns-clause-does : goal.returns-clause-does
+returns-clause-does c = does_there
+
+pub returns-clause-alone : goal.returns-clause-alone
+returns-clause-alone c = does_alone
+
+pub returns-clause-bits : goal.returns-clause-bits
+returns-clause-bits c = length_next

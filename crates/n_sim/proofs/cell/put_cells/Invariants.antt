@@ -1,5 +1,5 @@
 use Rattle.std.proofs.Common.{◌≡◌, length, take, drop, false}
-use Rattle.n_cells.specs.Run.{value_at}
+use Rattle.lz_circuit.specs.Values.{value_at}
 use Rattle.n_cells.specs.Walk.{all_values}
 use Rattle.n_sim.proofs.Walks.{Reaches}
 use Rattle.n_sim.proofs.cell.put_cells.Given as goal

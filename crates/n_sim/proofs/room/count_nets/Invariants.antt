@@ -1,5 +1,6 @@
 use Rattle.std.proofs.Common.{◌≡◌, ◌+◌, drop}
-use Rattle.n_cells.specs.Netlist.{port_bits, cell_nets, net_count}
+use Rattle.lz_circuit.specs.Lines.{port_bits}
+use Rattle.n_cells.specs.Netlist.{cell_nets, net_count}
 use Rattle.n_sim.proofs.room.count_nets.Given as goal
 
 abbrev pub invariant-loop-port : goal.invariant-loop-port

@@ -1,6 +1,6 @@
 use Rattle.std.proofs.Common.{◌≡◌, length, map, take}
 use Rattle.lz_base.specs.Bits.{word_of}
-use Rattle.n_cells.specs.Run.{value_at}
+use Rattle.lz_circuit.specs.Values.{value_at}
 use Rattle.n_sim.proofs.sim.show.Given as goal
 
 abbrev pub invariant-loop-i : goal.invariant-loop-i

@@ -1,6 +1,6 @@
 use Rattle.std.proofs.Common.{◌≡◌, ◌<◌, ◌≤◌, ◌-◌, ◌^◌, length, map, drop}
 use Rattle.lz_base.specs.Bits.{number_of}
-use Rattle.n_cells.specs.Run.{value_at}
+use Rattle.lz_circuit.specs.Values.{value_at}
 use Rattle.n_sim.proofs.word.number_at.Given as goal
 
 abbrev pub invariant-loop-i : goal.invariant-loop-i

@@ -1,5 +1,5 @@
 use Rattle.std.proofs.Common.{◌≡◌, ◌≤◌, ◌+◌, ◌*◌, drop}
-use Rattle.n_cells.specs.Netlist.{HaveWidths, port_bits}
+use Rattle.lz_circuit.specs.Lines.{HaveWidths, port_bits}
 use Rattle.n_text.proofs.counting.count_bits.Given as goal
 
 abbrev pub invariant-loop-port : goal.invariant-loop-port

@@ -10,7 +10,7 @@ use Rattle.n_text.proofs.Parts as parts
 use Rattle.n_cells.specs.declared.netlist.Stored.{Stored}
 use Rattle.n_cells.specs.declared.netlist.Stored.TheVariants as stored
 use Rattle.lz_lines.specs.Forms.{Obtains}
-use Rattle.n_text.specs.Grammar.{Ends}
+use Rattle.lz_lines.specs.Forms.{Ended}
 use Rattle.n_text.proofs.lines.read_carry.Goals as goal
 
 pub returns-in_err-a : goal.returns-in_err-a
@@ -31,4 +31,4 @@ returns-in_err-c c =
 pub returns : goal.returns
 returns c =
     after_obtains _ _ c.end_line.result (after_then IsNet Parted (g.CarryEnd c.in_ok-a.a c.in_ok-b.b) (after_then IsNet Parted (g.CarryLast c.in_ok-a.a) (after_then IsNet Parted g.CarrySecond (after_start (Tail format_.Two key.Carry) Anything c.args.bytes.now) (λ a v text behind is d. parts.net_parted (g.CarryLast a) v text behind is) c.in_ok-a.ensures.reads) (λ a v text behind is d. parts.net_parted (g.CarryEnd c.in_ok-a.a a) v text behind is) c.in_ok-b.ensures.reads) (λ a v text behind is d. parts.ends_parted (Some (line.Cell (stored.Carry c.in_ok-a.a c.in_ok-b.b a))) v text behind is) c.in_ok-c.ensures.reads)
-    (subst (λ (s : Stored). Obtains (Ends (Some (line.Cell s))) Anything (λ r. r.0) (λ r. r.1.now) c.in_ok-c.rest.now c.end_line.result) c.carry.ensures c.end_line.ensures)
+    (subst (λ (s : Stored). Obtains (Ended (Some (line.Cell s))) Anything (λ r. r.0) (λ r. r.1.now) c.in_ok-c.rest.now c.end_line.result) c.carry.ensures c.end_line.ensures.reads)

@@ -17,4 +17,4 @@ returns-in_err-name c =
 
 pub returns : goal.returns
 returns c =
-    then_obtains IsNameField Parted g.ClockEnd Anything _ _ c.end_line.result (λ a v text behind is d. parts.ends_parted (Some (line.Clock a)) v text behind is) c.in_ok-name.ensures c.end_line.ensures
+    then_obtains IsNameField Parted g.ClockEnd Anything _ _ c.end_line.result (λ a v text behind is d. parts.ends_parted (Some (line.Clock a)) v text behind is) c.in_ok-name.ensures c.end_line.ensures.reads

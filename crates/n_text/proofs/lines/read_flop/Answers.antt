@@ -26,4 +26,4 @@ returns-in_err-enable c =
 
 pub returns : goal.returns
 returns c =
-    after_obtains _ _ c.end_line.result (after_then (IsEnable c.args.format) Parted (g.FlopEnd c.in_ok-first.first c.in_ok-net.net) (after_then IsNet Parted (g.FlopEnable c.args.format c.in_ok-first.first) (after_then IsBit Anything (g.FlopNet c.args.format) (after_start (Tail c.args.format key.Flop) Anything c.args.bytes.now) (λ a v text behind is d. tt) c.in_ok-first.ensures.reads) (λ a v text behind is d. parts.enable_parted c.args.format c.in_ok-first.first a v text behind is) c.in_ok-net.ensures.reads) (λ a v text behind is d. parts.ends_parted (Some (line.Flop (record { first = c.in_ok-first.first; net = c.in_ok-net.net; enable = a }))) v text behind is) c.in_ok-enable.ensures) c.end_line.ensures
+    after_obtains _ _ c.end_line.result (after_then (IsEnable c.args.format) Parted (g.FlopEnd c.in_ok-first.first c.in_ok-net.net) (after_then IsNet Parted (g.FlopEnable c.args.format c.in_ok-first.first) (after_then IsBit Anything (g.FlopNet c.args.format) (after_start (Tail c.args.format key.Flop) Anything c.args.bytes.now) (λ a v text behind is d. tt) c.in_ok-first.ensures.reads) (λ a v text behind is d. parts.enable_parted c.args.format c.in_ok-first.first a v text behind is) c.in_ok-net.ensures.reads) (λ a v text behind is d. parts.ends_parted (Some (line.Flop (record { first = c.in_ok-first.first; net = c.in_ok-net.net; enable = a }))) v text behind is) c.in_ok-enable.ensures) c.end_line.ensures.reads

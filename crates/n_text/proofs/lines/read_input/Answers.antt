@@ -22,4 +22,4 @@ returns-in_err-width c =
 
 pub returns : goal.returns
 returns c =
-    after_obtains _ _ c.end_line.result (after_then (IsNumber 1 128) Parted (g.InputEnd c.in_ok-name.name) (after_then IsNameField Parted g.InputWidth (after_start (Tail format_.Two key.Input) Anything c.args.bytes.now) (λ a v text behind is d. parts.width_parted a v text behind is) c.in_ok-name.ensures) (λ a v text behind is d. parts.ends_parted (Some (line.Input (record { name = c.in_ok-name.name; width = a }))) v text behind is) c.in_ok-width.ensures.reads) c.end_line.ensures
+    after_obtains _ _ c.end_line.result (after_then (IsNumber 1 128) Parted (g.InputEnd c.in_ok-name.name) (after_then IsNameField Parted g.InputWidth (after_start (Tail format_.Two key.Input) Anything c.args.bytes.now) (λ a v text behind is d. parts.width_parted a v text behind is) c.in_ok-name.ensures) (λ a v text behind is d. parts.ends_parted (Some (line.Input (record { name = c.in_ok-name.name; width = a }))) v text behind is) c.in_ok-width.ensures.reads) c.end_line.ensures.reads

@@ -1,6 +1,6 @@
 use Rattle.std.proofs.Common.{Some, List, ℕ, ◌≡◌, ◌≤◌, ◌<◌, ◌^◌, subst, ◌∙◌, ap, arith}
 use Rattle.lz_lines.specs.Fields.{AreNumbers, IsHex, IsNumber}
-use Rattle.lz_lines.specs.Forms.{Anything, Breaks, EndNumbers, Obtains, Parted, Takes, Then}
+use Rattle.lz_lines.specs.Forms.{Anything, Breaks, Ended, EndNumbers, Obtains, Parted, Takes, Then}
 use Rattle.lz_lines.proofs.Forms.{after_breaks, after_obtains, after_same, after_start, after_then, then_broken}
 use Rattle.n_cells.specs.declared.netlist.Stored.{Stored}
 use Rattle.n_cells.specs.declared.netlist.Stored.TheVariants as stored
@@ -8,7 +8,7 @@ use Rattle.n_cells.specs.Form.{leaves_of}
 use Rattle.n_text.specs.declared.line.Key.TheVariants as key
 use Rattle.n_text.specs.declared.line.Line.TheVariants as line
 use Rattle.n_text.specs.Grammar as g
-use Rattle.n_text.specs.Grammar.{most, Ends, Tail}
+use Rattle.n_text.specs.Grammar.{most, Tail}
 use Rattle.n_text.proofs.Parts as parts
 use Rattle.n_text.proofs.lines.read_lut.Goals as goal
 
@@ -45,7 +45,7 @@ returns c =
     let hex_ = subst (λ w. Takes (IsHex w) Anything c.in_ok-rest.rest.now c.in_ok-table.table c.in_ok-table.rest.now) c.table_width.ensures c.in_ok-table.ensures.reads in
     let four = after_then (IsHex (2 ^ c.in_ok-count.count)) Anything (g.LutEnd nets) three (λ a v text behind is d. tt) hex_ in
     let same : c.lut.result ≡ stored.Lut nets c.in_ok-table.table = c.lut.ensures ∙ ap (λ (ls : List ℕ). stored.Lut ls c.in_ok-table.table) c.deref.ensures.value in
-    after_obtains _ _ c.end_line.result four (subst (λ (s : Stored). Obtains (Ends (Some (line.Cell s))) Anything (λ r. r.0) (λ r. r.1.now) c.in_ok-table.rest.now c.end_line.result) same c.end_line.ensures)
+    after_obtains _ _ c.end_line.result four (subst (λ (s : Stored). Obtains (Ended (Some (line.Cell s))) Anything (λ r. r.0) (λ r. r.1.now) c.in_ok-table.rest.now c.end_line.result) same c.end_line.ensures.reads)
 
 pub overflow_cast-table : goal.overflow_cast-table
 overflow_cast-table c =

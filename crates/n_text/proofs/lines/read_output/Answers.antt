@@ -11,7 +11,7 @@ use Rattle.n_text.proofs.Parts as parts
 use Rattle.std.proofs.Common.{Option}
 use Rattle.lz_lines.specs.Forms.{Obtains}
 use Rattle.n_text.specs.declared.line.Line.{Line}
-use Rattle.n_text.specs.Grammar.{Ends}
+use Rattle.lz_lines.specs.Forms.{Ended}
 use Rattle.n_text.proofs.lines.read_output.Goals as goal
 
 pub returns-in_err-name : goal.returns-in_err-name
@@ -29,8 +29,8 @@ returns c =
     let nets = c.read_numbers.new.numbers.items in
     let two = after_then (AreNumbers 1 128 most) (EndNumbers 128) (g.OutputEnd c.in_ok-name.name) (after_then IsNameField Parted g.OutputNets (after_start (Tail format_.Two key.Output) Anything c.args.bytes.now) (λ a v text behind is d. parts.nets_parted a v text behind is) c.in_ok-name.ensures)
     (λ a v text behind is d. (parts.ends_parted (Some (line.Output (record { name = c.in_ok-name.name; width = length a }) a)) v text behind is, λ fewer. parts.ends_line (Some (line.Output (record { name = c.in_ok-name.name; width = length a }) a)) v text behind is)) c.in_ok-rest.ensures.reads in
-    let kept : c.in_ok-from_slice.field-0 ≡ nets = c.in_ok-from_slice.ensures ∙ c.deref.ensures.value in
+    let kept : c.in_ok-nets.nets ≡ nets = c.in_ok-nets.ensures ∙ c.deref.ensures.value in
     let width : c.len.result ≡ length nets = cc (c.len.ensures) in
-    let same : Some (line.Output (record { name = c.in_ok-name.name; width = c.len.result }) c.in_ok-from_slice.field-0) ≡ Some (line.Output (record { name = c.in_ok-name.name; width = length nets }) nets) =
+    let same : Some (line.Output (record { name = c.in_ok-name.name; width = c.len.result }) c.in_ok-nets.nets) ≡ Some (line.Output (record { name = c.in_ok-name.name; width = length nets }) nets) =
     λ i. Some (line.Output (record { name = c.in_ok-name.name; width = width i }) (kept i)) in
-    after_obtains _ _ c.end_line.result two (subst (λ (l : Option Line). Obtains (Ends l) Anything (λ r. r.0) (λ r. r.1.now) c.in_ok-rest.rest.now c.end_line.result) same c.end_line.ensures)
+    after_obtains _ _ c.end_line.result two (subst (λ (l : Option Line). Obtains (Ended l) Anything (λ r. r.0) (λ r. r.1.now) c.in_ok-rest.rest.now c.end_line.result) same c.end_line.ensures.reads)

@@ -1,6 +1,7 @@
 use Rattle.std.proofs.Common.{◌≡◌, ◌++◌, map, take, drop}
 use Rattle.lz_base.specs.Names.{AreDistinct}
-use Rattle.n_cells.specs.Netlist.{names_of, net_count, HaveWidths, FillOutputs, OutputsBelow}
+use Rattle.lz_circuit.specs.Lines.{HaveWidths}
+use Rattle.n_cells.specs.Netlist.{names_of, net_count, FillOutputs, OutputsBelow}
 use Rattle.n_text.proofs.making.fill_outputs.Given as goal
 
 abbrev pub invariant-loop-i : goal.invariant-loop-i

@@ -1,5 +1,5 @@
 use Rattle.std.proofs.Common.{◌≡◌, ◌++◌, length, drop}
-use Rattle.n_cells.specs.Netlist.{HaveWidths, port_bits}
+use Rattle.lz_circuit.specs.Lines.{HaveWidths, port_bits}
 use Rattle.n_sim.specs.Lanes.{stream}
 use Rattle.s_flow.specs.SideBySide.{words_at}
 use Rattle.s_flow.proofs.transposing.words_at.Given as goal

@@ -1,5 +1,5 @@
 use Rattle.std.proofs.Common.{◌≡◌, ◌+◌, length, drop}
-use Rattle.n_cells.specs.Netlist.{port_bits}
+use Rattle.lz_circuit.specs.Lines.{port_bits}
 use Rattle.s_flow.proofs.turns.room.Given as goal
 
 abbrev pub invariant-loop-port : goal.invariant-loop-port

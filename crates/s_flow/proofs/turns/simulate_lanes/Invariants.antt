@@ -1,5 +1,5 @@
 use Rattle.std.proofs.Common.{◌≡◌, length}
-use Rattle.n_cells.specs.Netlist.{port_bits}
+use Rattle.lz_circuit.specs.Lines.{port_bits}
 use Rattle.t_trace.specs.Widths.{CyclesFit}
 use Rattle.s_flow.specs.Simulation.{widths_of}
 use Rattle.s_flow.proofs.InTurn.{IsUnderWay}

@@ -9,6 +9,7 @@ invariant_of-self c =
     record {
       formed = rw is (formed_set (network_value c.self.inside) _ c.args.index c.args.literal c.args.enable c.self.view_is c.self.invariant.formed c.requires.literal c.requires.enable);
       next = c.self.invariant.next ∙ count_set (network_value c.self.inside) _ c.args.index c.args.literal c.args.enable is;
+      few = c.self.invariant.few;
     }
 
 pub returns : goal.returns

@@ -6,3 +6,9 @@ pub mod Places
 pub mod Keywords
 pub mod BitFields
 pub mod Counted
+pub mod Listed
+pub mod Lengths
+pub mod MetNames
+pub mod Standing
+pub mod Referring
+pub mod TableFields

@@ -1,5 +1,5 @@
 -- How the fields of a line are spelled. A field stands behind one blank, and a line ends with LF.
-use Rattle.std.specs.Prelude.{◌≡◌, ℕ, ◌+◌, ◌/◌, ◌%◌, ◌^◌, ◌<◌, ◌≤◌, zero, suc, List, [], ◌∷◌, ◌++◌, nat_lt, if◌then◌else◌, Bool, true, false, codes, flat_map, length, ⊤}
+use Rattle.std.specs.Prelude.{◌≡◌, ℕ, ◌+◌, ◌/◌, ◌%◌, ◌^◌, ◌-◌, ◌<◌, ◌≤◌, zero, suc, List, [], ◌∷◌, ◌++◌, nat_lt, if◌then◌else◌, Bool, true, false, codes, flat_map, length, ⊤}
 use Rattle.std.specs.Fmt.{decimal}
 use Rattle.lz_base.specs.Names.{IsName}
 
@@ -52,6 +52,15 @@ IsBit b text = text ≡ bit b
 
 abbrev pub IsNameField : List ℕ → List ℕ → Type 0
 IsNameField name text = IsName name × (text ≡ field name)
+
+-- the greatest number in a text
+abbrev pub greatest : ℕ
+greatest = 2 ^ 128 - 1
+
+-- each of these has the property
+abbrev pub Each : {X : Type 0} → (X → Type 0) → List X → Type 0
+Each Has [] = ⊤
+Each Has (x ∷ xs) = Has x × Each Has xs
 
 -- each number is this one or less
 abbrev pub AllUpTo : ℕ → List ℕ → Type 0

@@ -5,3 +5,6 @@ pub mod Unread
 pub mod Places
 pub mod Forms
 pub mod Keywords
+pub mod Shared
+pub mod References
+pub mod Tables

@@ -1,0 +1,11 @@
+pub mod Opening
+pub mod Spelling
+pub mod Growing
+pub mod Sections
+pub mod Wholes
+pub mod Texts
+pub mod Standing
+pub mod Faulting
+pub mod Referring
+pub mod Filling
+pub mod Luts

@@ -1,0 +1,10 @@
+pub mod Text
+pub mod Form
+pub mod Keys
+pub mod Raw
+pub mod Parts
+pub mod Grammar
+pub mod Referred
+pub mod Answers
+pub mod Proposals
+pub mod Luts

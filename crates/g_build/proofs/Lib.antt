@@ -1,0 +1,3 @@
+mod Indexing
+mod Leaving
+mod Sums

@@ -9,7 +9,5 @@ mod building;
 mod index;
 mod part;
 mod sum;
-#[cfg(test)]
-mod tests;
 
 pub use building::Builder;

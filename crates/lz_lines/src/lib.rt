@@ -33,6 +33,3 @@ pub use shared::{push_clock, push_inputs, push_numbers, push_output, read_name_c
 pub use tables::{push_table, read_table};
 pub use unread::Unread;
 pub use words::{Keyword, read_key};
-
-#[cfg(test)]
-mod tests;

@@ -18,6 +18,3 @@ pub use format::Format;
 pub use law::{machine_lasts, machine_step, net_after_net, old_run, one_valuation};
 pub use leaves::{LEAVES, Leaves};
 pub use netlist::{Cell, Flop, Netlist, NetlistMaker};
-
-#[cfg(test)]
-mod tests;

@@ -22,6 +22,3 @@ mod word;
 
 pub use lanes::Lanes;
 pub use sim::Sim;
-
-#[cfg(test)]
-mod tests;

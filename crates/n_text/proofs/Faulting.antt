@@ -6,30 +6,33 @@ use Rattle.std.proofs.lemmas.Result.{err_from_is_err_and}
 use Rattle.std.specs.Option.{option_to_list}
 use Rattle.lz_base.specs.declared.name.Port.{Port}
 use Rattle.lz_base.specs.declared.fault.Stop.{Stop}
-use Rattle.lz_base.specs.declared.fault.Stop.TheVariants as stop
+use Rattle.lz_base.specs.declared.rule.Rule.TheVariants.{N2}
 use Rattle.lz_lines.specs.Fields.{field}
+use Rattle.lz_lines.specs.References.{IsWrong, Judges, wrong_inputs}
+use Rattle.lz_lines.specs.Shared.{clock_line, input_line}
+use Rattle.lz_lines.proofs.MetNames.{wrong_more}
 use Rattle.n_cells.specs.declared.format.Format.{Format}
 use Rattle.n_cells.specs.declared.format.Format.TheVariants as format_
 use Rattle.n_cells.specs.Netlist.{NetlistValue, first_net, net_count}
-use Rattle.n_cells.specs.Text.{clock_line, input_line, flop_line, cell_line, output_lines, text}
-use Rattle.n_text.specs.Answers.{Judges, IsWrong}
+use Rattle.n_cells.specs.Text.{flop_line, cell_line, output_lines, text}
 use Rattle.n_text.specs.Raw.{head, model_line, body, end_line}
-use Rattle.n_text.specs.Referred.{wrong_inputs, wrong_flops, wrong_cells, wrong_outputs, wrong_places, inputs_at, flops_at, cells_at, outputs_at}
+use Rattle.n_text.specs.Referred.{wrong_flops, wrong_cells, wrong_outputs, wrong_places, inputs_at, flops_at, cells_at, outputs_at}
 use Rattle.n_text.proofs.Wholes.{text_is}
 
 -- a fault in one part, before which nothing is wrong
-pub fault_at : {X : Type 0} (result : Result X Stop) (e : Stop) (end_ : ℕ) (front judged part back places : List ℕ) → IsErrAnd result (λ x. x ≡ e) → Judges (Err e) end_ judged → judged ≡ part → front ≡ []
-    → places ≡ front ++ part ++ back → IfErr result (IsWrong places)
-fault_at result (stop.Fault f) end_ front judged part back places is h same none whole =
+pub fault_at : {X : Type 0} (result : Result X Stop) (e : Stop) (front judged part back places : List ℕ) → IsErrAnd result (λ x. x ≡ e) → IsWrong N2 judged e → judged ≡ part → front ≡ []
+    → places ≡ front ++ part ++ back → IfErr result (IsWrong N2 places)
+fault_at result e front judged part back places is h same none whole =
     let p = err_from_is_err_and result is in
-    rw (p.1 ∙ ap Err p.2) (h.0, h.1 ++ back, whole ∙ ap (λ l. l ++ part ++ back) none ∙ ap (λ l. l ++ back) (sym same ∙ h.2))
-fault_at result stop.OutOfMemory end_ front judged part back places is h same none whole =
-    let p = err_from_is_err_and result is in
-    rw (p.1 ∙ ap Err p.2) tt
+    rw (p.1 ∙ ap Err p.2) (wrong_more N2 e judged back places h (whole ∙ ap (λ l. l ++ part ++ back) none ∙ ap (λ l. l ++ back) (sym same)))
 
 pub model_length : (format : Format) (name : List ℕ) → length (model_line format name) ≡ 16 + length name
 model_length format_.One name = let e = length-append name (10 ∷ []) in omega (arith, e)
 model_length format_.Two name = let e = length-append name (10 ∷ []) in omega (arith, e)
+
+-- the lines behind the clock's
+pub begun_at : (format : Format) (n : NetlistValue) (front behind : ℕ) → front ≡ length (model_line format n.name) → behind ≡ front + length (clock_line n.clock) → behind ≡ inputs_at format n
+begun_at format n front behind e f = f ∙ ap (λ k. k + length (clock_line n.clock)) e
 
 -- the lines of all kinds have room in the text
 pub record Rooms (format : Format) (n : NetlistValue) : Type 0 where
@@ -99,43 +102,43 @@ module _ (format : Format) (n : NetlistValue) where
   same_outputs count at_ e h = λ i. wrong_outputs (option_to_list n.clock ++ map (λ (p : Port). p.name) n.inputs) (e i) (h.begins i) n.outputs n.nets
 
   -- a part in which nothing is wrong
-  pub at_flops : (at_ behind : ℕ) → at_ ≡ inputs_at format n → Judges (Ok behind) (at_ + length (flat_map input_line n.inputs)) (wrong_inputs (option_to_list n.clock) at_ n.inputs) → AtFlops format n behind
+  pub at_flops : (at_ behind : ℕ) → at_ ≡ inputs_at format n → Judges N2 (Ok behind) (at_ + length (flat_map input_line n.inputs)) (wrong_inputs (option_to_list n.clock) at_ n.inputs) → AtFlops format n behind
   at_flops at_ behind e j = record { begins = j.0 ∙ ap (λ k. k + length (flat_map input_line n.inputs)) e; clean = sym (same_inputs at_ e) ∙ j.1 }
 
-  pub at_cells : (count at_ behind : ℕ) → count ≡ net_count n → AtFlops format n at_ → Judges (Ok behind) (at_ + length (flat_map (flop_line format) n.flops)) (wrong_flops format count at_ n.flops)
+  pub at_cells : (count at_ behind : ℕ) → count ≡ net_count n → AtFlops format n at_ → Judges N2 (Ok behind) (at_ + length (flat_map (flop_line format) n.flops)) (wrong_flops format count at_ n.flops)
       → AtCells format n behind
   at_cells count at_ behind e h j = record {
     begins = j.0 ∙ ap (λ k. k + length (flat_map (flop_line format) n.flops)) h.begins;
     clean = λ i. h.clean i ++ (sym (same_flops count at_ e h) ∙ j.1) i;
   }
 
-  pub at_outputs : (first at_ behind : ℕ) → first ≡ first_net n.inputs n.flops → AtCells format n at_ → Judges (Ok behind) (at_ + length (flat_map cell_line n.cells)) (wrong_cells first at_ n.cells)
+  pub at_outputs : (first at_ behind : ℕ) → first ≡ first_net n.inputs n.flops → AtCells format n at_ → Judges N2 (Ok behind) (at_ + length (flat_map cell_line n.cells)) (wrong_cells first at_ n.cells)
       → AtOutputs format n behind
   at_outputs first at_ behind e h j =
       record { begins = j.0 ∙ ap (λ k. k + length (flat_map cell_line n.cells)) h.begins; clean = λ i. h.clean i ++ (sym (same_cells first at_ e h) ∙ j.1) i }
 
   pub none_there : (count at_ end_ behind : ℕ) → count ≡ net_count n → AtOutputs format n at_
-      → Judges (Ok behind) end_ (wrong_outputs (option_to_list n.clock ++ map (λ (p : Port). p.name) n.inputs) count at_ n.outputs n.nets) → wrong_places format n ≡ []
+      → Judges N2 (Ok behind) end_ (wrong_outputs (option_to_list n.clock ++ map (λ (p : Port). p.name) n.inputs) count at_ n.outputs n.nets) → wrong_places format n ≡ []
   none_there count at_ end_ behind e h j = λ i. h.clean i ++ (sym (same_outputs count at_ e h) ∙ j.1) i
 
   -- a part in which something is
-  pub fault_inputs : {X : Type 0} (result : Result X Stop) (e : Stop) (at_ end_ : ℕ) → IsErrAnd result (λ x. x ≡ e) → at_ ≡ inputs_at format n
-      → Judges (Err e) end_ (wrong_inputs (option_to_list n.clock) at_ n.inputs) → IfErr result (IsWrong (wrong_places format n))
-  fault_inputs result e at_ end_ is b j =
-      fault_at result e end_ [] _ (of_inputs format n) _ _ is j (same_inputs at_ b) refl
+  pub fault_inputs : {X : Type 0} (result : Result X Stop) (e : Stop) (at_ : ℕ) → IsErrAnd result (λ x. x ≡ e) → at_ ≡ inputs_at format n
+      → IsWrong N2 (wrong_inputs (option_to_list n.clock) at_ n.inputs) e → IfErr result (IsWrong N2 (wrong_places format n))
+  fault_inputs result e at_ is b j =
+      fault_at result e [] _ (of_inputs format n) _ _ is j (same_inputs at_ b) refl
       (append_assoc (of_inputs format n ++ of_flops format n) (of_cells format n) (of_outputs format n) ∙ append_assoc (of_inputs format n) (of_flops format n) (of_cells format n ++ of_outputs format n))
 
-  pub fault_flops : {X : Type 0} (result : Result X Stop) (e : Stop) (count at_ end_ : ℕ) → IsErrAnd result (λ x. x ≡ e) → count ≡ net_count n → AtFlops format n at_
-      → Judges (Err e) end_ (wrong_flops format count at_ n.flops) → IfErr result (IsWrong (wrong_places format n))
-  fault_flops result e count at_ end_ is b h j =
-      fault_at result e end_ (of_inputs format n) _ (of_flops format n) _ _ is j (same_flops count at_ b h) h.clean (append_assoc (of_inputs format n ++ of_flops format n) (of_cells format n) (of_outputs format n))
+  pub fault_flops : {X : Type 0} (result : Result X Stop) (e : Stop) (count at_ : ℕ) → IsErrAnd result (λ x. x ≡ e) → count ≡ net_count n → AtFlops format n at_
+      → IsWrong N2 (wrong_flops format count at_ n.flops) e → IfErr result (IsWrong N2 (wrong_places format n))
+  fault_flops result e count at_ is b h j =
+      fault_at result e (of_inputs format n) _ (of_flops format n) _ _ is j (same_flops count at_ b h) h.clean (append_assoc (of_inputs format n ++ of_flops format n) (of_cells format n) (of_outputs format n))
 
-  pub fault_cells : {X : Type 0} (result : Result X Stop) (e : Stop) (first at_ end_ : ℕ) → IsErrAnd result (λ x. x ≡ e) → first ≡ first_net n.inputs n.flops → AtCells format n at_
-      → Judges (Err e) end_ (wrong_cells first at_ n.cells) → IfErr result (IsWrong (wrong_places format n))
-  fault_cells result e first at_ end_ is b h j =
-      fault_at result e end_ (of_inputs format n ++ of_flops format n) _ (of_cells format n) (of_outputs format n) _ is j (same_cells first at_ b h) h.clean refl
+  pub fault_cells : {X : Type 0} (result : Result X Stop) (e : Stop) (first at_ : ℕ) → IsErrAnd result (λ x. x ≡ e) → first ≡ first_net n.inputs n.flops → AtCells format n at_
+      → IsWrong N2 (wrong_cells first at_ n.cells) e → IfErr result (IsWrong N2 (wrong_places format n))
+  fault_cells result e first at_ is b h j =
+      fault_at result e (of_inputs format n ++ of_flops format n) _ (of_cells format n) (of_outputs format n) _ is j (same_cells first at_ b h) h.clean refl
 
-  pub fault_outputs : {X : Type 0} (result : Result X Stop) (e : Stop) (count at_ end_ : ℕ) → IsErrAnd result (λ x. x ≡ e) → count ≡ net_count n → AtOutputs format n at_
-      → Judges (Err e) end_ (wrong_outputs (option_to_list n.clock ++ map (λ (p : Port). p.name) n.inputs) count at_ n.outputs n.nets) → IfErr result (IsWrong (wrong_places format n))
-  fault_outputs result e count at_ end_ is b h j =
-      fault_at result e end_ (of_inputs format n ++ of_flops format n ++ of_cells format n) _ (of_outputs format n) [] _ is j (same_outputs count at_ b h) h.clean (sym (append-nil (wrong_places format n)))
+  pub fault_outputs : {X : Type 0} (result : Result X Stop) (e : Stop) (count at_ : ℕ) → IsErrAnd result (λ x. x ≡ e) → count ≡ net_count n → AtOutputs format n at_
+      → IsWrong N2 (wrong_outputs (option_to_list n.clock ++ map (λ (p : Port). p.name) n.inputs) count at_ n.outputs n.nets) e → IfErr result (IsWrong N2 (wrong_places format n))
+  fault_outputs result e count at_ is b h j =
+      fault_at result e (of_inputs format n ++ of_flops format n ++ of_cells format n) _ (of_outputs format n) [] _ is j (same_outputs count at_ b h) h.clean (sym (append-nil (wrong_places format n)))

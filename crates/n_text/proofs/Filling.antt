@@ -1,14 +1,14 @@
 -- A netlist with one more line.
-use Rattle.std.proofs.Common.{◌≡◌, ℕ, zero, suc, ◌+◌, List, [], ◌∷◌, ◌++◌, map, take, drop, slice_get, get_or, Some, arith, ap, sym, subst, ◌∙◌, append_assoc, append-nil}
+use Rattle.std.proofs.Common.{◌≡◌, ℕ, ◌+◌, List, [], ◌∷◌, ◌++◌, map, take, drop, slice_get, Some, arith, ap, sym, subst, ◌∙◌, append_assoc, append-nil}
 use Rattle.std.specs.Option.{option_to_list}
 use Rattle.std.proofs.lemmas.List.{map-append}
 use Rattle.lz_base.specs.declared.name.Port.{Port}
 use Rattle.lz_base.specs.Names.{IsNew, AreDistinct}
+use Rattle.lz_lines.proofs.Listed.{drop_next, take_next}
+use Rattle.lz_lines.proofs.Referring.{distinct_new}
 use Rattle.n_cells.specs.declared.netlist.Stored.{Stored}
 use Rattle.n_cells.specs.Netlist.{NetlistValue, names_of, net_count, cell_nets, nets_of, ReadBackwards, HaveShapes}
 use Rattle.n_text.specs.Raw.{bare}
-use Rattle.n_text.proofs.Adding.{drop_next, take_next}
-use Rattle.n_text.proofs.Referring.{distinct_new}
 
 -- the names that are to come are distinct, so the next is new
 pub next_new : (names : List (List ℕ)) (ps : List Port) (i : ℕ) (p : Port) → slice_get ps i ≡ Some p → AreDistinct (names ++ map (λ (q : Port). q.name) (drop i ps)) → IsNew p.name names
@@ -78,8 +78,3 @@ start_names m raw ports name e f h =
     front_distinct (option_to_list raw.clock ++ map (λ (p : Port). p.name) raw.inputs) (map (λ (p : Port). p.name) raw.outputs) h in
     subst (λ (l : List (List ℕ)). AreDistinct (l ++ map (λ (p : Port). p.name) ports)) (sym clock)
     (subst (λ (ps : List Port). AreDistinct (option_to_list raw.clock ++ map (λ (p : Port). p.name) ps)) (sym f) front)
-
-pub get_or_is : {X : Type 0} (xs : List X) (i : ℕ) (x d : X) → slice_get xs i ≡ Some x → get_or xs i d ≡ x
-get_or_is [] i x d e = cc
-get_or_is (y ∷ ys) zero x d e = cc
-get_or_is (y ∷ ys) (suc i) x d e = get_or_is ys i x d e

@@ -1,22 +1,18 @@
 -- What one more line keeps of the form.
-use Rattle.std.proofs.Common.{◌≡◌, ℕ, ◌<◌, ◌+◌, List, [], ◌∷◌, ◌++◌, take, length, get_or, slice_get, Some, refl, sym, subst}
+use Rattle.std.proofs.Common.{◌≡◌, ℕ, ◌<◌, ◌+◌, List, [], ◌∷◌, ◌++◌, take, length, get_or, slice_get, Option, None, Some, sym, subst}
+use Rattle.std.specs.Option.{option_to_list}
 use Rattle.std.proofs.lemmas.List.{take_more}
-use Rattle.std.proofs.lemmas.Option.{slice_get_read}
 use Rattle.lz_base.specs.declared.name.Port.{Port}
 use Rattle.lz_base.specs.Names.{IsName}
+use Rattle.lz_lines.specs.Fields.{Each}
+use Rattle.lz_lines.proofs.Listed.{take_next}
 use Rattle.n_cells.specs.declared.netlist.Flop.{Flop}
 use Rattle.n_cells.specs.declared.netlist.Stored.{Stored}
 use Rattle.n_cells.specs.declared.netlist.Stored.TheVariants as stored
 use Rattle.n_cells.specs.declared.format.Format.TheVariants as format
 use Rattle.n_cells.specs.Leaves.{most_leaves}
 use Rattle.n_cells.specs.Netlist.{NetlistValue, AllBelow, HaveShapes, ReadsBelow, FlopsBelow, OutputsBelow, IsWellFormed}
-use Rattle.n_cells.specs.Form.{PortsNamed, CellsBelow, HaveEnables, HaveFewLeaves, FitsFormat}
-use Rattle.n_text.proofs.Adding.{take_next}
-
--- one more number that is below
-below_more : (high : ℕ) (nets : List ℕ) (net : ℕ) → AllBelow high nets → net < high → AllBelow high (nets ++ net ∷ [])
-below_more high [] net h one = (one, tt)
-below_more high (n ∷ ns) net h one = (h.0, below_more high ns net h.1 one)
+use Rattle.n_cells.specs.Form.{ClockNamed, PortsNamed, CellsBelow, HaveEnables, HaveFewLeaves, FitsFormat}
 
 -- one more flip-flop whose nets are below
 pub flops_more : (high : ℕ) (fs : List Flop) (f : Flop) → FlopsBelow high fs → f.net < high → f.enable < high → FlopsBelow high (fs ++ f ∷ [])
@@ -38,10 +34,6 @@ pub outputs_more_below : (high : ℕ) (ns : List (List ℕ)) (n : List ℕ) → 
 outputs_more_below high [] n h one = (one, tt)
 outputs_more_below high (m ∷ ns) n h one = (h.0, outputs_more_below high ns n h.1 one)
 
--- the number at an index is below
-pub below_next : (high : ℕ) (ns : List ℕ) (i d : ℕ) → AllBelow high (take i ns) → i < length ns → get_or ns i d < high → AllBelow high (take (i + 1) ns)
-below_next high ns i d h within one = subst (AllBelow high) (sym (take_more ns i d within)) (below_more high (take i ns) (get_or ns i d) h one)
-
 -- the nets of the flip-flop at an index are below
 pub flops_next : (high : ℕ) (fs : List Flop) (i : ℕ) (d : Flop) → FlopsBelow high (take i fs) → i < length fs → (get_or fs i d).net < high → (get_or fs i d).enable < high
     → FlopsBelow high (take (i + 1) fs)
@@ -61,9 +53,14 @@ leaves_two (stored.Carry a b c ∷ cs) h = (tt, leaves_two cs h.1)
 pub fits_two : (n : NetlistValue) → IsWellFormed n → FitsFormat format.Two n
 fits_two n h = record { enables = enables_two n.flops; leaves = leaves_two n.cells h.begun.lines.cells }
 
--- the name of the port at an index is a name
-pub named_next : (ps : List Port) (i : ℕ) (p : Port) → PortsNamed (take i ps) → i < length ps → p ≡ get_or ps i p → IsName p.name → PortsNamed (take (i + 1) ps)
-named_next ps i p h within is one = subst PortsNamed (sym (take_next ps i p (slice_get_read ps (length ps) i p refl within is))) (named_more (take i ps) p h one)
+-- names, as the form has them
+pub clock_named : (clock : Option (List ℕ)) → Each IsName (option_to_list clock) → ClockNamed clock
+clock_named None h = tt
+clock_named (Some name) h = h.0
+
+pub ports_named : (ps : List Port) → Each (λ (p : Port). IsName p.name) ps → PortsNamed ps
+ports_named [] h = tt
+ports_named (p ∷ ps) h = (h.0, ports_named ps h.1)
 
 -- the cell at an index reads nets that are below
 pub cells_next : (high : ℕ) (cs : List Stored) (i : ℕ) (c : Stored) → CellsBelow high (take i cs) → slice_get cs i ≡ Some c → ReadsBelow high c → CellsBelow high (take (i + 1) cs)

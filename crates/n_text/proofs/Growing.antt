@@ -1,15 +1,16 @@
 -- One line more keeps the form, and adds its spelling.
 use Rattle.std.proofs.Common.{◌≡◌, ℕ, ◌≤◌, List, [], ◌∷◌, ◌++◌, length, flat_map, true, ◌||◌, not, is_some, IsSome, Option, None, Some, refl, ap, sym, subst, ◌∙◌, append_assoc, append-nil}
-use Rattle.std.proofs.lemmas.List.Concat.{flat_map-cons, flat_map-append}
 use Rattle.lz_base.specs.declared.name.Port.{Port}
 use Rattle.lz_base.specs.Names.{IsName}
+use Rattle.lz_lines.specs.Shared.{clock_line, input_line, output_line}
+use Rattle.lz_lines.proofs.Listed.{flat_more}
 use Rattle.n_cells.specs.declared.netlist.Flop.{Flop}
 use Rattle.n_cells.specs.declared.netlist.Stored.{Stored}
 use Rattle.n_cells.specs.declared.netlist.Stored.TheVariants as stored
 use Rattle.lz_circuit.specs.Lines.{HasClock}
 use Rattle.lz_circuit.proofs.Lines.{widths_more, clocked_more}
 use Rattle.n_cells.specs.Netlist.{NetlistValue, HasShape, HaveShapes, FillOutputs}
-use Rattle.n_cells.specs.Text.{clock_line, input_line, flop_line, cell_line, output_line, output_lines}
+use Rattle.n_cells.specs.Text.{flop_line, cell_line, output_lines}
 use Rattle.n_cells.specs.Form.{bound, leaves_of, HasForm, HasEnable, HasFewLeaves, HaveEnables, HaveFewLeaves}
 use Rattle.n_cells.specs.declared.format.Format.{Format}
 use Rattle.n_text.specs.declared.line.Line.{Line}
@@ -115,14 +116,11 @@ form_more format n (line.Output p nets) h may f = record {
   nets = outputs_more_below bound n.nets nets h.nets f.4;
 }
 
-outputs_more : (ps : List Port) (ns : List (List ℕ)) (p : Port) (n : List ℕ) → FillOutputs ps ns → output_lines (ps ++ p ∷ []) (ns ++ n ∷ []) ≡ output_lines ps ns ++ output_line p n
-outputs_more [] [] p n h = append-nil (output_line p n)
+outputs_more : (ps : List Port) (ns : List (List ℕ)) (p : Port) (n : List ℕ) → FillOutputs ps ns → output_lines (ps ++ p ∷ []) (ns ++ n ∷ []) ≡ output_lines ps ns ++ output_line p.name n
+outputs_more [] [] p n h = append-nil (output_line p.name n)
 outputs_more [] (m ∷ ms) p n h = absurd h
 outputs_more (q ∷ qs) [] p n h = absurd h
-outputs_more (q ∷ qs) (m ∷ ms) p n h = ap (λ l. output_line q m ++ l) (outputs_more qs ms p n h.1) ∙ sym (append_assoc (output_line q m) (output_lines qs ms) (output_line p n))
-
-flat_more : {X : Type 0} (f : X → List ℕ) (xs : List X) (x : X) → flat_map f (xs ++ x ∷ []) ≡ flat_map f xs ++ f x
-flat_more f xs x = flat_map-append f xs (x ∷ []) ∙ ap (λ l. flat_map f xs ++ l) (flat_map-cons f x [] ∙ append-nil (f x))
+outputs_more (q ∷ qs) (m ∷ ms) p n h = ap (λ l. output_line q.name m ++ l) (outputs_more qs ms p n h.1) ∙ sym (append_assoc (output_line q.name m) (output_lines qs ms) (output_line p.name n))
 
 parts : Format → Option (List ℕ) → List Port → List Flop → List Stored → List Port → List (List ℕ) → List ℕ
 parts format clock ins fs cs ps ns = clock_line clock ++ flat_map input_line ins ++ flat_map (flop_line format) fs ++ flat_map cell_line cs ++ output_lines ps ns
@@ -186,7 +184,7 @@ body_more format n (line.Cell (stored.Lut leaves table)) h may = cell_body forma
 body_more format n (line.Cell (stored.Carry a b c)) h may = cell_body format n.clock n.inputs n.flops n.cells (stored.Carry a b c) n.outputs n.nets (none_is n.outputs may)
 body_more format n (line.Output p nets) h may =
     let front = clock_line n.clock ++ flat_map input_line n.inputs ++ flat_map (flop_line format) n.flops ++ flat_map cell_line n.cells in
-    ap (λ l. front ++ l) (outputs_more n.outputs n.nets p nets h.lines.filled) ∙ sym (append_assoc front (output_lines n.outputs n.nets) (output_line p nets))
+    ap (λ l. front ++ l) (outputs_more n.outputs n.nets p nets h.lines.filled) ∙ sym (append_assoc front (output_lines n.outputs n.nets) (output_line p.name nets))
 
 -- a line keeps the model's name
 same_name : (n : NetlistValue) (l : Line) → (with_line n l).name ≡ n.name

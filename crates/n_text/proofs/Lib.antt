@@ -1,13 +1,12 @@
-pub mod Adding
+pub mod Outputs
 pub mod Forming
 pub mod Opening
 pub mod Spelling
 pub mod Growing
 pub mod Sections
-pub mod Parts
+pub mod Standing
 pub mod Wholes
 pub mod Lengths
-pub mod MetNames
 pub mod Referring
 pub mod Filling
 pub mod Faulting

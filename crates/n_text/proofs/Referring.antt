@@ -1,54 +1,49 @@
 -- A netlist with the form is well formed exactly where no reference is wrong.
-use Rattle.std.proofs.Common.{Option, None, Some, ◌≡◌, ◌≢◌, ℕ, ◌+◌, ◌<◌, ◌≤◌, List, [], ◌∷◌, ◌++◌, length, map, Bool, true, false, cond, refl, arith, ap, sym, subst, ◌∙◌, append_assoc, append-nil, lt-ltb}
-use Rattle.std.specs.Prelude.{◌||◌, bytes_eq, nat_lt}
+use Rattle.std.proofs.Common.{◌≡◌, ℕ, ◌+◌, ◌<◌, ◌≤◌, List, [], ◌∷◌, ◌++◌, length, map, refl, arith, ap, sym, subst, ◌∙◌, append_assoc, append-nil}
 use Rattle.std.specs.Option.{option_to_list}
-use Rattle.std.proofs.lemmas.Bool.Decides.{nat_tests}
-use Rattle.std.proofs.lemmas.Slice.Eq.{bytes_eq-Decides}
 use Rattle.lz_base.specs.declared.name.Port.{Port}
-use Rattle.lz_base.specs.Names.{IsNew, AreDistinct, is_among}
-use Rattle.lz_lines.specs.Fields.{field, number}
+use Rattle.lz_base.specs.Names.{AreDistinct}
+use Rattle.lz_lines.specs.Fields.{field}
+use Rattle.lz_lines.specs.References.{wrong_inputs, wrong_name, wrong_numbers, wrong_output}
+use Rattle.lz_lines.specs.Shared.{output_line}
+use Rattle.lz_lines.proofs.Referring as referring
+use Rattle.lz_lines.proofs.Referring.{clock_distinct, distinct_last, distinct_new, empty_front, inputs_none, inputs_right, name_none, name_right, numbers_none, numbers_right}
 use Rattle.n_cells.specs.declared.netlist.Flop.{Flop}
 use Rattle.n_cells.specs.declared.netlist.Stored.{Stored}
 use Rattle.n_cells.specs.declared.netlist.Stored.TheVariants as stored
 use Rattle.n_cells.specs.Netlist.{NetlistValue, net_count, first_net, nets_of, AllBelow, ReadsBelow, ReadBackwards, FlopsBelow, OutputsBelow, FillOutputs, IsWellFormed}
-use Rattle.n_cells.specs.Text.{input_line, flop_line, cell_line, output_line}
+use Rattle.n_cells.specs.Text.{flop_line, cell_line}
 use Rattle.n_cells.specs.declared.format.Format.{Format}
 use Rattle.n_cells.specs.declared.format.Format.TheVariants as format_
 use Rattle.n_cells.specs.Form.{HasForm, HaveEnables}
-use Rattle.n_text.specs.Referred.{flop_nets, wrong_nets, wrong_name, wrong_inputs, wrong_flops, wrong_cell, wrong_cells, wrong_outputs, wrong_places, inputs_at, flops_at, cells_at, outputs_at}
+use Rattle.n_text.specs.Referred.{flop_nets, wrong_flops, wrong_cell, wrong_cells, wrong_outputs, wrong_places, inputs_at, flops_at, cells_at, outputs_at}
 
-empty_front : (a b : List ℕ) → a ++ b ≡ [] → (a ≡ []) × (b ≡ [])
-empty_front [] b e = (refl, e)
-empty_front (x ∷ a) b e = cc
+-- nets are numbers
+all_below : (high : ℕ) (ns : List ℕ) → referring.AllBelow high ns → AllBelow high ns
+all_below high [] h = tt
+all_below high (n ∷ ns) h = (h.0, all_below high ns h.1)
 
-below : (n high : ℕ) → nat_lt n high ≡ true → n < high
-below n high e = grind (arith, nat_tests)
+below_all : (high : ℕ) (ns : List ℕ) → AllBelow high ns → referring.AllBelow high ns
+below_all high [] h = tt
+below_all high (n ∷ ns) h = (h.0, below_all high ns h.1)
 
--- numbers
-nets_right : (high place : ℕ) (ns : List ℕ) → wrong_nets high place ns ≡ [] → AllBelow high ns
-nets_right high place [] e = tt
-nets_right high place (n ∷ ns) e = at (nat_lt n high) refl (nets_right high (place + length (number n)) ns) e
-  where
-    at : (t : Bool) → nat_lt n high ≡ t → (wrong_nets high (place + length (number n)) ns ≡ [] → AllBelow high ns) → (cond t [] ((place + 1) ∷ []) ++ wrong_nets high (place + length (number n)) ns) ≡ []
-        → AllBelow high (n ∷ ns)
-    at true t more e = (below n high t, more e)
-    at false t more e = cc
+nets_right : (high place : ℕ) (ns : List ℕ) → wrong_numbers high place ns ≡ [] → AllBelow high ns
+nets_right high place ns e = all_below high ns (numbers_right high place ns e)
 
-nets_none : (high place : ℕ) (ns : List ℕ) → AllBelow high ns → wrong_nets high place ns ≡ []
-nets_none high place [] h = refl
-nets_none high place (n ∷ ns) h = rw (lt-ltb n high h.0) (nets_none high (place + length (number n)) ns h.1)
+nets_none : (high place : ℕ) (ns : List ℕ) → AllBelow high ns → wrong_numbers high place ns ≡ []
+nets_none high place ns h = numbers_none high place ns (below_all high ns h)
 
 flops_right : (format : Format) (count place : ℕ) (fs : List Flop) → 2 ≤ count → HaveEnables format fs → wrong_flops format count place fs ≡ [] → FlopsBelow count fs
 flops_right format count place [] some enables e = tt
 flops_right format_.One count place (f ∷ fs) some enables e =
-    let p = empty_front (wrong_nets count (place + 4) (f.net ∷ [])) _ e in
+    let p = empty_front (wrong_numbers count (place + 4) (f.net ∷ [])) _ e in
     ((nets_right count (place + 4) (f.net ∷ []) p.0).0, omega (arith, enables.0), flops_right format_.One count (place + length (flop_line format_.One f)) fs some enables.1 p.1)
 flops_right format_.Two count place (f ∷ fs) some enables e =
-    let p = empty_front (wrong_nets count (place + 4) (f.net ∷ f.enable ∷ [])) _ e in
+    let p = empty_front (wrong_numbers count (place + 4) (f.net ∷ f.enable ∷ [])) _ e in
     let h = nets_right count (place + 4) (f.net ∷ f.enable ∷ []) p.0 in
     (h.0, h.1.0, flops_right format_.Two count (place + length (flop_line format_.Two f)) fs some enables.1 p.1)
 
-flop_none : (format : Format) (count place : ℕ) (f : Flop) → f.net < count → f.enable < count → wrong_nets count place (flop_nets format f) ≡ []
+flop_none : (format : Format) (count place : ℕ) (f : Flop) → f.net < count → f.enable < count → wrong_numbers count place (flop_nets format f) ≡ []
 flop_none format_.One count place f net enable = nets_none count place (f.net ∷ []) (net, tt)
 flop_none format_.Two count place f net enable = nets_none count place (f.net ∷ f.enable ∷ []) (net, (enable, tt))
 
@@ -75,73 +70,15 @@ cells_none : (next place : ℕ) (cs : List Stored) → ReadBackwards next cs →
 cells_none next place [] h = refl
 cells_none next place (c ∷ cs) h = ap (λ l. l ++ wrong_cells (next + nets_of c) (place + length (cell_line c)) cs) (cell_none next place c h.0) ∙ cells_none (next + nets_of c) (place + length (cell_line c)) cs h.1
 
--- names
-new_name : (name : List ℕ) (names : List (List ℕ)) → is_among name names ≡ false → IsNew name names
-new_name name [] e = tt
-new_name name (other ∷ names) e = at (bytes_eq other name) refl (new_name name names) e
-  where
-    at : (t : Bool) → bytes_eq other name ≡ t → (is_among name names ≡ false → IsNew name names) → (t || is_among name names) ≡ false → IsNew name (other ∷ names)
-    at true t more e = cc
-    at false t more e = (λ same. let yes : bytes_eq other name ≡ true = (bytes_eq-Decides other name).1 (sym same) in cc, more e)
-
-none_among : (name : List ℕ) (names : List (List ℕ)) → IsNew name names → is_among name names ≡ false
-none_among name [] h = refl
-none_among name (other ∷ names) h = at (bytes_eq other name) refl (none_among name names h.1)
-  where
-    at : (t : Bool) → bytes_eq other name ≡ t → is_among name names ≡ false → (t || is_among name names) ≡ false
-    at true t more = absurd (h.0 (sym ((bytes_eq-Decides other name).0 t)))
-    at false t more = more
-
-name_right : (names : List (List ℕ)) (place : ℕ) (name : List ℕ) → wrong_name names place name ≡ [] → IsNew name names
-name_right names place name e = at (is_among name names) refl e
-  where
-    at : (t : Bool) → is_among name names ≡ t → cond t (place ∷ []) [] ≡ [] → IsNew name names
-    at true t e = cc
-    at false t e = new_name name names t
-
-name_none : (names : List (List ℕ)) (place : ℕ) (name : List ℕ) → IsNew name names → wrong_name names place name ≡ []
-name_none names place name h = rw (none_among name names h) refl
-
-new_last : (x last : List ℕ) (names : List (List ℕ)) → IsNew x names → x ≢ last → IsNew x (names ++ last ∷ [])
-new_last x last [] h apart = (apart, tt)
-new_last x last (other ∷ names) h apart = (h.0, new_last x last names h.1 apart)
-
-distinct_last : (names : List (List ℕ)) (last : List ℕ) → AreDistinct names → IsNew last names → AreDistinct (names ++ last ∷ [])
-distinct_last [] last h new = (tt, tt)
-distinct_last (x ∷ names) last h new = (new_last x last names h.0 (λ e. new.0 (sym e)), distinct_last names last h.1 new.1)
-
--- a name among distinct ones is none of those before it
-apart_from : (x name : List ℕ) (names rest : List (List ℕ)) → IsNew x (names ++ name ∷ rest) → x ≢ name
-apart_from x name [] rest h = h.0
-apart_from x name (other ∷ names) rest h = apart_from x name names rest h.1
-
-pub distinct_new : (names rest : List (List ℕ)) (name : List ℕ) → AreDistinct (names ++ name ∷ rest) → IsNew name names
-distinct_new [] rest name h = tt
-distinct_new (other ∷ names) rest name h = (λ e. apart_from other name names rest h.0 (sym e), distinct_new names rest name h.1)
-
-inputs_right : (names : List (List ℕ)) (place : ℕ) (ps : List Port) → AreDistinct names → wrong_inputs names place ps ≡ [] → AreDistinct (names ++ map (λ p. p.name) ps)
-inputs_right names place [] h e = subst AreDistinct (sym (append-nil names)) h
-inputs_right names place (p ∷ ps) h e =
-    let parts = empty_front (wrong_name names (place + 6) p.name) _ e in
-    subst AreDistinct (append_assoc names (p.name ∷ []) (map (λ p. p.name) ps))
-    (inputs_right (names ++ p.name ∷ []) (place + length (input_line p)) ps (distinct_last names p.name h (name_right names (place + 6) p.name parts.0)) parts.1)
-
-inputs_none : (names : List (List ℕ)) (place : ℕ) (ps : List Port) (rest : List (List ℕ)) → AreDistinct (names ++ (map (λ p. p.name) ps ++ rest)) → wrong_inputs names place ps ≡ []
-inputs_none names place [] rest h = refl
-inputs_none names place (p ∷ ps) rest h =
-    let more : List (List ℕ) = map (λ (q : Port). q.name) ps ++ rest in
-    ap (λ l. l ++ wrong_inputs (names ++ p.name ∷ []) (place + length (input_line p)) ps) (name_none names (place + 6) p.name (distinct_new names more p.name h))
-    ∙ inputs_none (names ++ p.name ∷ []) (place + length (input_line p)) ps rest (subst AreDistinct (sym (append_assoc names (p.name ∷ []) more)) h)
-
 outputs_right : (names : List (List ℕ)) (count place : ℕ) (ps : List Port) (ns : List (List ℕ)) → FillOutputs ps ns → AreDistinct names → wrong_outputs names count place ps ns ≡ []
     → AreDistinct (names ++ map (λ p. p.name) ps) × OutputsBelow count ns
 outputs_right names count place [] [] fill h e = (subst AreDistinct (sym (append-nil names)) h, tt)
 outputs_right names count place [] (n ∷ ns) fill h e = absurd fill
 outputs_right names count place (p ∷ ps) [] fill h e = absurd fill
 outputs_right names count place (p ∷ ps) (n ∷ ns) fill h e =
-    let outer = empty_front (wrong_name names (place + 7) p.name ++ wrong_nets count (place + 6 + length (field p.name)) n) _ e in
+    let outer = empty_front (wrong_output names count place p.name n) _ e in
     let parts = empty_front (wrong_name names (place + 7) p.name) _ outer.0 in
-    let rest = outputs_right (names ++ p.name ∷ []) count (place + length (output_line p n)) ps ns fill.1 (distinct_last names p.name h (name_right names (place + 7) p.name parts.0)) outer.1 in
+    let rest = outputs_right (names ++ p.name ∷ []) count (place + length (output_line p.name n)) ps ns fill.1 (distinct_last names p.name h (name_right names (place + 7) p.name parts.0)) outer.1 in
     (subst AreDistinct (append_assoc names (p.name ∷ []) (map (λ p. p.name) ps)) rest.0, (nets_right count _ n parts.1, rest.1))
 
 outputs_none : (names : List (List ℕ)) (count place : ℕ) (ps : List Port) (ns : List (List ℕ)) → AreDistinct (names ++ map (λ p. p.name) ps) → OutputsBelow count ns
@@ -150,14 +87,10 @@ outputs_none names count place [] ns h below = refl
 outputs_none names count place (p ∷ ps) [] h below = refl
 outputs_none names count place (p ∷ ps) (n ∷ ns) h below =
     let name : wrong_name names (place + 7) p.name ≡ [] = name_none names (place + 7) p.name (distinct_new names (map (λ p. p.name) ps) p.name h) in
-    let nets : wrong_nets count (place + 6 + length (field p.name)) n ≡ [] = nets_none count (place + 6 + length (field p.name)) n below.0 in
-    let front : wrong_name names (place + 7) p.name ++ wrong_nets count (place + 6 + length (field p.name)) n ≡ [] = ap (λ l. l ++ wrong_nets count (place + 6 + length (field p.name)) n) name ∙ nets in
-    ap (λ l. l ++ wrong_outputs (names ++ p.name ∷ []) count (place + length (output_line p n)) ps ns) front
-    ∙ outputs_none (names ++ p.name ∷ []) count (place + length (output_line p n)) ps ns (subst AreDistinct (sym (append_assoc names (p.name ∷ []) (map (λ p. p.name) ps))) h) below.1
-
-clock_distinct : (clock : Option (List ℕ)) → AreDistinct (option_to_list clock)
-clock_distinct None = tt
-clock_distinct (Some c) = (tt, tt)
+    let nets : wrong_numbers count (place + 6 + length (field p.name)) n ≡ [] = nets_none count (place + 6 + length (field p.name)) n below.0 in
+    let front : wrong_output names count place p.name n ≡ [] = ap (λ l. l ++ wrong_numbers count (place + 6 + length (field p.name)) n) name ∙ nets in
+    ap (λ l. l ++ wrong_outputs (names ++ p.name ∷ []) count (place + length (output_line p.name n)) ps ns) front
+    ∙ outputs_none (names ++ p.name ∷ []) count (place + length (output_line p.name n)) ps ns (subst AreDistinct (sym (append_assoc names (p.name ∷ []) (map (λ p. p.name) ps))) h) below.1
 
 -- no reference is wrong, so the netlist is well formed
 pub well_formed : (format : Format) (n : NetlistValue) → HasForm format n → wrong_places format n ≡ [] → IsWellFormed n

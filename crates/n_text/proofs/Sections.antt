@@ -3,6 +3,7 @@ use Rattle.std.proofs.Common.{◌≡◌, ℕ, ◌≤◌, List, [], ◌∷◌, �
 use Rattle.std.proofs.lemmas.List.Concat.{flat_map-cons}
 use Rattle.lz_base.specs.declared.name.Port.{Port}
 use Rattle.lz_lines.specs.Keywords.{OneOf}
+use Rattle.lz_lines.specs.Shared.{clock_line, input_line, output_line}
 use Rattle.n_cells.specs.declared.format.Format.{Format}
 use Rattle.n_cells.specs.declared.netlist.Flop.{Flop}
 use Rattle.n_cells.specs.declared.netlist.Stored.{Stored}
@@ -10,7 +11,7 @@ use Rattle.n_cells.specs.declared.netlist.Stored.TheVariants as stored
 use Rattle.n_cells.specs.Form.{bound, leaves_of, HasForm, HaveEnables, HaveFewLeaves, ClockNamed, PortsNamed, CellsBelow}
 use Rattle.lz_circuit.specs.Lines.{HaveWidths, HasClock}
 use Rattle.n_cells.specs.Netlist.{NetlistValue, HaveShapes, FillOutputs, FlopsBelow, OutputsBelow}
-use Rattle.n_cells.specs.Text.{clock_line, input_line, flop_line, cell_line, output_line, output_lines}
+use Rattle.n_cells.specs.Text.{flop_line, cell_line, output_lines}
 use Rattle.n_text.specs.declared.line.Key.TheVariants as key
 use Rattle.n_text.specs.declared.line.Line.{Line}
 use Rattle.n_text.specs.declared.line.Line.TheVariants as line
@@ -64,7 +65,7 @@ module _ (format : Format) where
       let next : Rest format (record n { outputs = n.outputs ++ p ∷ ps; nets = n.nets ++ q ∷ qs }) m t = g in
       let rest = outputs_go (with_line n l) m ps qs t named.1 widths.2 fill.1 below.1
       (subst (λ (x : NetlistValue). Rest format x m t) (λ k. record n { outputs = sym (append_assoc n.outputs (p ∷ []) ps) k; nets = sym (append_assoc n.nets (q ∷ []) qs) k }) next) in
-      subst (λ x. Rest format n m x) (sym (append_assoc (output_line p q) (output_lines ps qs) t))
+      subst (λ x. Rest format n m x) (sym (append_assoc (output_line p.name q) (output_lines ps qs) t))
       (one_first n m l (output_lines ps qs ++ t) (output_comes (none n.outputs) (none n.cells) (none n.flops) (is_some n.clock) (none n.inputs))
       (named.0, sym fill.0, subst (λ w. 1 ≤ w) (sym fill.0) widths.0, subst (λ w. w ≤ 128) (sym fill.0) widths.1, below.0) rest)
 

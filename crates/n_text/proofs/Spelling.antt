@@ -3,13 +3,15 @@ use Rattle.std.proofs.Common.{◌≡◌, ℕ, ◌^◌, ◌<◌, ◌≤◌, List,
 use Rattle.std.specs.Prelude.{codes}
 use Rattle.lz_base.specs.declared.name.Port.{Port}
 use Rattle.lz_base.specs.Names.{IsName}
-use Rattle.lz_lines.specs.Fields.{AllUpTo, field, number, hex, bit, line_end}
+use Rattle.lz_lines.specs.Fields.{AllUpTo, field, greatest, number, hex, bit, line_end}
+use Rattle.lz_lines.specs.Shared.{clock_line, input_line, output_line}
+use Rattle.lz_lines.specs.Tables.{table_fields}
 use Rattle.n_cells.specs.declared.format.Format.{Format}
 use Rattle.n_cells.specs.declared.format.Format.TheVariants as format_
 use Rattle.n_cells.specs.declared.netlist.Stored.{Stored}
 use Rattle.n_cells.specs.declared.netlist.Stored.TheVariants as stored
 use Rattle.n_cells.specs.declared.netlist.Flop as flop
-use Rattle.n_cells.specs.Text.{clock_line, input_line, flop_line, cell_line, output_line}
+use Rattle.n_cells.specs.Text.{flop_line, cell_line}
 use Rattle.n_cells.specs.Form.{bound, leaves_of, HasFewLeaves, HasEnable}
 use Rattle.n_cells.specs.Leaves.{most_leaves}
 use Rattle.n_cells.specs.Netlist.{AllBelow, HasShape, ReadsBelow}
@@ -18,7 +20,7 @@ use Rattle.n_text.specs.declared.line.Key.TheVariants as key
 use Rattle.n_text.specs.declared.line.Line.{Line}
 use Rattle.n_text.specs.declared.line.Line.TheVariants.{Clock, Input, Flop, Cell, Output}
 use Rattle.n_text.specs.Keys.{key_word}
-use Rattle.n_text.specs.Grammar.{most, IsEnable, Tail}
+use Rattle.n_text.specs.Grammar.{IsEnable, Tail}
 
 abbrev pub cell_key : Stored → Key
 cell_key (stored.Lut leaves table) = key.Lut
@@ -44,7 +46,7 @@ enable_field format_.One enable = []
 enable_field format_.Two enable = number enable
 
 abbrev pub cell_tail : Stored → List ℕ
-cell_tail (stored.Lut leaves table) = number (length leaves) ++ (flat_map number leaves ++ (field (hex (2 ^ length leaves) table) ++ line_end))
+cell_tail (stored.Lut leaves table) = table_fields leaves table ++ line_end
 cell_tail (stored.Carry a b c) = number a ++ (number b ++ (number c ++ line_end))
 
 -- what stands behind the word of a line
@@ -60,13 +62,14 @@ pub record IsSpelled (format : Format) (k : Key) (line : Line) (text : List ℕ)
   pub fields : HasFields format line
   pub spelled : text ≡ tail_of format line
 
-up_to : (ns : List ℕ) → AllUpTo most ns → AllBelow bound ns
-up_to [] h = tt
-up_to (n ∷ ns) h = (omega (arith, h.0), up_to ns h.1)
+-- numbers of a text are below the bound
+pub within_bound : (ns : List ℕ) → AllUpTo greatest ns → AllBelow bound ns
+within_bound [] h = tt
+within_bound (n ∷ ns) h = (omega (arith, h.0), within_bound ns h.1)
 
-below : (ns : List ℕ) → AllBelow bound ns → AllUpTo most ns
-below [] h = tt
-below (n ∷ ns) h = (omega (arith, h.0), below ns h.1)
+up_to_greatest : (ns : List ℕ) → AllBelow bound ns → AllUpTo greatest ns
+up_to_greatest [] h = tt
+up_to_greatest (n ∷ ns) h = (omega (arith, h.0), up_to_greatest ns h.1)
 
 enable_in : (format : Format) (enable : ℕ) (text : List ℕ) → IsEnable format enable text → (enable < bound) × (text ≡ enable_field format enable)
 enable_in format_.One enable text h = (omega (arith, h.0), h.1)
@@ -99,13 +102,9 @@ tail_in format key.Flop line text (first, front, back, isbit, (net, f, b, isnet,
       fields = (omega (arith, isnet.1), there.0, enable_has format first net enable g isenable);
       spelled = e ∙ (λ i. isbit i ++ (d ∙ (λ j. isnet.2 j ++ (h ∙ (λ k. there.1 k ++ ends.1 k)) j)) i);
     })
-tail_in format key.Lut line text (count, front, back, iscount, (leaves, f, b, nets, (enough, (table, g, c, ishex, ends, h)), d), e) =
-    let many : count ≡ length leaves = omega (arith, nets.0, nets.1) in
-    subst (λ (l : Line). IsSpelled format key.Lut l text) (same_line line (Cell (stored.Lut leaves table)) ends.0) (record {
-      kind = refl;
-      fields = ((few format (length leaves) (subst (λ n. n ≤ leaves_of format) many iscount.1), subst (λ n. table < 2 ^ (2 ^ n)) many ishex.0), subst (λ n. n ≤ leaves_of format) many iscount.1, up_to leaves nets.2);
-      spelled = e ∙ (λ i. (iscount.2 ∙ ap number many) i ++ (d ∙ (λ j. nets.3 j ++ (h ∙ (λ k. (ishex.1 ∙ ap (λ n. field (hex (2 ^ n) table)) many) k ++ ends.1 k)) j)) i);
-    })
+tail_in format key.Lut line text (t, front, back, table, ends, e) =
+    subst (λ (l : Line). IsSpelled format key.Lut l text) (same_line line (Cell (stored.Lut t.0 t.1)) ends.0)
+    (record { kind = refl; fields = ((few format (length t.0) table.0, table.2), table.0, within_bound t.0 table.1); spelled = e ∙ (λ i. table.3 i ++ ends.1 i) })
 tail_in format key.Carry line text (x, front, back, isx, (y, f, b, isy, (z, g, c, isz, ends, h), d), e) =
     subst (λ (l : Line). IsSpelled format key.Carry l text) (same_line line (Cell (stored.Carry x y z)) ends.0) (record {
       kind = refl;
@@ -115,7 +114,7 @@ tail_in format key.Carry line text (x, front, back, isx, (y, f, b, isy, (z, g, c
 tail_in format key.Output line text (name, front, back, named, (nets, f, b, isnets, ends, d), e) =
     let p : Port = record { name = name; width = length nets } in
     subst (λ (l : Line). IsSpelled format key.Output l text) (same_line line (Output p nets) ends.0)
-    (record { kind = refl; fields = (named.0, refl, isnets.0, isnets.1, up_to nets isnets.2); spelled = e ∙ (λ i. named.1 i ++ (d ∙ (λ j. isnets.3 j ++ ends.1 j)) i) })
+    (record { kind = refl; fields = (named.0, refl, isnets.0, isnets.1, within_bound nets isnets.2); spelled = e ∙ (λ i. named.1 i ++ (d ∙ (λ j. isnets.3 j ++ ends.1 j)) i) })
 tail_in format key.End line text ends = cc ends.0
 
 enable_out : (format : Format) (enable : ℕ) (first : _) (net : ℕ) → enable < bound → HasEnable format (record { first = first; net = net; enable = enable }) → IsEnable format enable (enable_field format enable)
@@ -141,21 +140,7 @@ tail_out format (Flop f) h = (
   ),
   refl,
 )
-tail_out format (Cell (stored.Lut leaves table)) h = (
-  length leaves,
-  number (length leaves),
-  flat_map number leaves ++ (field (hex (2 ^ length leaves) table) ++ line_end),
-  (omega arith, h.1, refl),
-  (
-    leaves,
-    flat_map number leaves,
-    field (hex (2 ^ length leaves) table) ++ line_end,
-    (omega arith, omega arith, below leaves h.2, refl),
-    (omega arith, (table, field (hex (2 ^ length leaves) table), line_end, (h.0.1, refl), (refl, refl), refl)),
-    refl,
-  ),
-  refl,
-)
+tail_out format (Cell (stored.Lut leaves table)) h = ((leaves, table), table_fields leaves table, line_end, (h.1, up_to_greatest leaves h.2, h.0.1, refl), (refl, refl), refl)
 tail_out format (Cell (stored.Carry a b c)) h = (
   a,
   number a,
@@ -174,7 +159,7 @@ tail_out format (Output p nets) h =
         nets,
         flat_map number nets,
         line_end,
-        (h.2, h.3, below nets h.4, refl),
+        (h.2, h.3, up_to_greatest nets h.4, refl),
         (ap (λ q. Some (Output q nets)) (sym port), refl),
         refl,
       ),
@@ -187,7 +172,7 @@ spelling format (Clock name) = clock_line (Some name)
 spelling format (Input p) = input_line p
 spelling format (Flop f) = flop_line format f
 spelling format (Cell c) = cell_line c
-spelling format (Output p nets) = output_line p nets
+spelling format (Output p nets) = output_line p.name nets
 
 -- the lines of flip-flops, and those of cells
 flop_is : (format : Format) (f : flop.Flop) → codes "ff" ++ tail_of format (Flop f) ≡ flop_line format f
@@ -200,7 +185,7 @@ cell_is (stored.Lut leaves table) =
     let k = number (length leaves) in
     let ls = flat_map number leaves in
     let t = field (hex (2 ^ length leaves) table) in
-    ap (λ x. codes "lut" ++ x) (sym (append_assoc k ls (t ++ line_end)) ∙ sym (append_assoc (k ++ ls) t line_end))
+    ap (λ x. codes "lut" ++ (x ++ line_end)) (sym (append_assoc k ls t))
 cell_is (stored.Carry a b c) =
     ap (λ x. codes "carry" ++ x) (sym (append_assoc (number a) (number b) (number c ++ line_end)) ∙ sym (append_assoc (number a ++ number b) (number c) line_end))
 

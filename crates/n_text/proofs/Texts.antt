@@ -4,11 +4,12 @@ use Rattle.std.proofs.lemmas.List.{length-append}
 use Rattle.lz_base.specs.Answers.{Answers, IfFault}
 use Rattle.lz_base.specs.declared.fault.Stop.{Stop}
 use Rattle.lz_base.specs.declared.fault.Stop.TheVariants as stop
-use Rattle.lz_base.specs.declared.rule.Rule.TheVariants.{N1}
+use Rattle.lz_base.specs.declared.rule.Rule.TheVariants.{N1, N2}
 use Rattle.lz_lines.specs.declared.unread.Unread.{Unread}
 use Rattle.lz_lines.specs.declared.unread.Unread.TheVariants as unread
 use Rattle.lz_lines.specs.Fields.{field, line_end}
 use Rattle.lz_lines.specs.Forms.{AreLines, Breaks, Nothing, Obtains, Takes}
+use Rattle.lz_lines.specs.References.{IsWrong}
 use Rattle.lz_lines.specs.Unread.{IsWithin, stop_of}
 use Rattle.lz_lines.proofs.Forms.{After, after_same, after_start}
 use Rattle.lz_lines.proofs.Places.{none_is, unreadable, whole_is, whole_only}
@@ -16,7 +17,7 @@ use Rattle.n_cells.specs.declared.format.Format.{Format}
 use Rattle.n_cells.specs.Form.{HasForm}
 use Rattle.n_cells.specs.Netlist.{NetlistValue}
 use Rattle.n_text.specs.declared.line.Line.{Line}
-use Rattle.n_text.specs.Answers.{IsRefusal, IsText, IsTextOf, IsWrong}
+use Rattle.n_text.specs.Answers.{IsRefusal, IsText, IsTextOf}
 use Rattle.n_text.specs.Grammar.{IsLine, MayEnd, Whole}
 use Rattle.n_text.specs.Raw.{bare, body, end_line, head, with_line}
 use Rattle.n_text.specs.Referred.{wrong_places}
@@ -74,11 +75,11 @@ pub text_of : (format : Format) (bytes : List ℕ) (n : NetlistValue) → Takes 
 text_of format bytes n t = let h = whole_is t in record { form = h.0; spelled = h.1; alone = λ m form spelled. sym (whole_only t m (form, spelled)) }
 
 -- no reference is wrong, so there is no fault
-pub answers_wrong : {X : Type 0} (seen : X → NetlistValue) (result : Result X Stop) (e : Stop) (n : NetlistValue) (places : List ℕ) → result ≡ Err e → IsWrong places e → places ≡ [] → Answers seen result n
+pub answers_wrong : {X : Type 0} (seen : X → NetlistValue) (result : Result X Stop) (e : Stop) (n : NetlistValue) (places : List ℕ) → result ≡ Err e → IsWrong N2 places e → places ≡ [] → Answers seen result n
 answers_wrong seen result (stop.Fault f) n places is h none = let some : f.at ∷ h.1 ≡ [] = sym h.2 ∙ none in cc
 answers_wrong seen result stop.OutOfMemory n places is h none = rw is tt
 
 -- a reference is wrong in the one netlist that has this text
-pub refused : {X : Type 0} (format : Format) (result : Result X Stop) (e : Stop) (bytes : List ℕ) (n : NetlistValue) → result ≡ Err e → IsWrong (wrong_places format n) e → IsTextOf format bytes n → IfFault result (IsRefusal format bytes)
+pub refused : {X : Type 0} (format : Format) (result : Result X Stop) (e : Stop) (bytes : List ℕ) (n : NetlistValue) → result ≡ Err e → IsWrong N2 (wrong_places format n) e → IsTextOf format bytes n → IfFault result (IsRefusal format bytes)
 refused format result (stop.Fault f) bytes n is h t = rw is (inr (record { rule = h.0; netlist = n; is = t; more = h.1; first = h.2 }))
 refused format result stop.OutOfMemory bytes n is h t = rw is tt

@@ -1,26 +1,13 @@
 -- What the readers of netlists answer.
-use Rattle.std.specs.Prelude.{◌≡◌, ℕ, List, ◌∷◌, [], Result, Ok, Err, ⊤, ◌⊎◌}
+use Rattle.std.specs.Prelude.{◌≡◌, ◌⊎◌, ℕ, List, ◌∷◌}
 use Rattle.lz_base.specs.declared.rule.Rule.TheVariants.{N1, N2}
-use Rattle.lz_base.specs.declared.fault.Fault.{Fault as Fault_}
-use Rattle.lz_base.specs.declared.fault.Stop.{Stop}
-use Rattle.lz_base.specs.declared.fault.Stop.TheVariants.{Fault, OutOfMemory}
+use Rattle.lz_base.specs.declared.fault.Fault.{Fault}
 use Rattle.lz_lines.specs.Places.{IsUnreadable}
 use Rattle.n_cells.specs.declared.format.Format.{Format}
 use Rattle.n_cells.specs.Form.{HasForm}
 use Rattle.n_cells.specs.Netlist.{NetlistValue}
 use Rattle.n_cells.specs.Text.{text}
 use Rattle.n_text.specs.Referred.{wrong_places}
-
--- The places are those of references that are judged up to here: none is wrong, or the fault is at the first.
-abbrev pub Judges : Result ℕ Stop → ℕ → List ℕ → Type 0
-Judges (Ok x) end_ places = (x ≡ end_) × (places ≡ [])
-Judges (Err (Fault f)) end_ places = (f.rule ≡ N2) × (more : List ℕ) × (places ≡ f.at ∷ more)
-Judges (Err OutOfMemory) end_ places = ⊤
-
--- a fault is N2, at the first of these places
-abbrev pub IsWrong : List ℕ → Stop → Type 0
-IsWrong places (Fault f) = (f.rule ≡ N2) × (more : List ℕ) × (places ≡ f.at ∷ more)
-IsWrong places OutOfMemory = ⊤
 
 -- the text of a netlist, whatever its references
 abbrev pub IsText : Format → NetlistValue → List ℕ → Type 0
@@ -33,7 +20,7 @@ pub record IsTextOf (format : Format) (bytes : List ℕ) (n : NetlistValue) : Ty
   pub alone : (m : NetlistValue) → HasForm format m → bytes ≡ text format m → m ≡ n
 
 -- One netlist has this text, and the place is that of its first wrong reference.
-pub record IsWrongAt (format : Format) (bytes : List ℕ) (f : Fault_) : Type 0 where
+pub record IsWrongAt (format : Format) (bytes : List ℕ) (f : Fault) : Type 0 where
   pub rule : f.rule ≡ N2
   pub netlist : NetlistValue
   pub is : IsTextOf format bytes netlist
@@ -41,5 +28,5 @@ pub record IsWrongAt (format : Format) (bytes : List ℕ) (f : Fault_) : Type 0 
   pub first : wrong_places format netlist ≡ f.at ∷ more
 
 -- the bytes leave the texts of all netlists at the place, or they are such a text, and the place is of a wrong reference
-abbrev pub IsRefusal : Format → List ℕ → Fault_ → Type 0
+abbrev pub IsRefusal : Format → List ℕ → Fault → Type 0
 IsRefusal format bytes f = IsUnreadable (IsText format) N1 bytes f ⊎ IsWrongAt format bytes f

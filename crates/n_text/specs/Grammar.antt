@@ -1,8 +1,9 @@
 -- The lines of a netlist's text, field by field.
-use Rattle.std.specs.Prelude.{◌≡◌, ℕ, ◌-◌, ◌^◌, ◌≤◌, List, [], length, Bool, Option, None, Some, ⊤}
-use Rattle.lz_lines.specs.Fields.{AreNumbers, IsBit, IsHex, IsNameField, IsNumber, IsWord, line_end}
+use Rattle.std.specs.Prelude.{◌≡◌, ℕ, List, [], length, Bool, Option, None, Some, ⊤}
+use Rattle.lz_lines.specs.Fields.{AreNumbers, IsBit, IsNameField, IsNumber, IsWord, greatest, line_end}
 use Rattle.lz_lines.specs.Forms.{Ended, Lines, Then}
 use Rattle.lz_lines.specs.Keywords.{OneOf}
+use Rattle.lz_lines.specs.Tables.{IsTable}
 use Rattle.n_cells.specs.declared.format.Format.{Format}
 use Rattle.n_cells.specs.declared.format.Format.TheVariants.{One, Two}
 use Rattle.n_cells.specs.declared.netlist.Stored.TheVariants as stored
@@ -16,20 +17,13 @@ use Rattle.n_text.specs.Keys.{key_word, keys_of}
 use Rattle.n_text.specs.Raw.{bare, end_line, head, with_line}
 
 -- a net, whatever it refers to
-abbrev pub most : ℕ
-most = 2 ^ 128 - 1
-
 abbrev pub IsNet : ℕ → List ℕ → Type 0
-IsNet = IsNumber 0 most
+IsNet = IsNumber 0 greatest
 
 -- the enable of a flip-flop, which format 1 leaves out
 abbrev pub IsEnable : Format → ℕ → List ℕ → Type 0
 IsEnable One enable text = (enable ≡ 1) × (text ≡ [])
 IsEnable Two enable text = IsNet enable text
-
--- a form that comes only behind so many nets
-abbrev pub Counted : {V : Type 0} → ℕ → List ℕ → (V → List ℕ → Type 0) → V → List ℕ → Type 0
-Counted count nets Is value text = (count ≤ length nets) × Is value text
 
 -- what is left of a line behind fields that are known
 abbrev pub ClockEnd : List ℕ → Option Line → List ℕ → Type 0
@@ -50,14 +44,8 @@ FlopEnable format first net = Then (IsEnable format) (FlopEnd first net)
 abbrev pub FlopNet : Format → Bool → Option Line → List ℕ → Type 0
 FlopNet format first = Then IsNet (FlopEnable format first)
 
-abbrev pub LutEnd : List ℕ → ℕ → Option Line → List ℕ → Type 0
-LutEnd leaves table = Ended (Some (Cell (stored.Lut leaves table)))
-
-abbrev pub LutTable : ℕ → List ℕ → Option Line → List ℕ → Type 0
-LutTable count leaves = Counted count leaves (Then (IsHex (2 ^ count)) (LutEnd leaves))
-
-abbrev pub LutLeaves : ℕ → Option Line → List ℕ → Type 0
-LutLeaves count = Then (AreNumbers count count most) (LutTable count)
+abbrev pub LutEnd : List ℕ × ℕ → Option Line → List ℕ → Type 0
+LutEnd t = Ended (Some (Cell (stored.Lut t.0 t.1)))
 
 abbrev pub CarryEnd : ℕ → ℕ → ℕ → Option Line → List ℕ → Type 0
 CarryEnd a b c = Ended (Some (Cell (stored.Carry a b c)))
@@ -72,14 +60,14 @@ abbrev pub OutputEnd : List ℕ → List ℕ → Option Line → List ℕ → Ty
 OutputEnd name nets = Ended (Some (Output (record { name = name; width = length nets }) nets))
 
 abbrev pub OutputNets : List ℕ → Option Line → List ℕ → Type 0
-OutputNets name = Then (AreNumbers 1 128 most) (OutputEnd name)
+OutputNets name = Then (AreNumbers 1 128 greatest) (OutputEnd name)
 
 -- what stands behind the word of a line: the line, or none for the end's
 abbrev pub Tail : Format → Key → Option Line → List ℕ → Type 0
 Tail format key.Clock = Then IsNameField ClockEnd
 Tail format key.Input = Then IsNameField InputWidth
 Tail format key.Flop = Then IsBit (FlopNet format)
-Tail format key.Lut = Then (IsNumber 0 (leaves_of format)) LutLeaves
+Tail format key.Lut = Then (IsTable (leaves_of format)) LutEnd
 Tail format key.Carry = Then IsNet CarrySecond
 Tail format key.Output = Then IsNameField OutputNets
 Tail format key.End = Ended None

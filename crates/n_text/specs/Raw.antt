@@ -1,8 +1,9 @@
 -- A netlist whose lines were read, whatever its nets and names refer to.
 use Rattle.std.specs.Prelude.{ℕ, List, [], ◌∷◌, ◌++◌, flat_map, codes, None, Some}
+use Rattle.lz_lines.specs.Shared.{clock_line, input_line}
 use Rattle.n_cells.specs.declared.format.Format.{Format}
 use Rattle.n_cells.specs.Netlist.{NetlistValue}
-use Rattle.n_cells.specs.Text.{first_line, clock_line, input_line, flop_line, cell_line, output_lines}
+use Rattle.n_cells.specs.Text.{first_line, flop_line, cell_line, output_lines}
 use Rattle.n_text.specs.declared.line.Line.{Line}
 use Rattle.n_text.specs.declared.line.Line.TheVariants.{Clock, Input, Flop, Cell, Output}
 use Rattle.n_text.specs.declared.raw.Raw.TheInside as raw

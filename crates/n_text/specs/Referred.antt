@@ -1,32 +1,19 @@
 -- Where a netlist's text breaks the rule on references: the places of its wrong numbers and repeated names, in the order
 -- of the text. A place is counted in bytes, from 0.
-use Rattle.std.specs.Prelude.{ℕ, ◌+◌, List, [], ◌∷◌, ◌++◌, length, map, flat_map, nat_lt, if◌then◌else◌}
+use Rattle.std.specs.Prelude.{ℕ, ◌+◌, List, [], ◌∷◌, ◌++◌, length, map, flat_map}
 use Rattle.std.specs.Option.{option_to_list}
 use Rattle.lz_base.specs.declared.name.Port.{Port}
-use Rattle.lz_base.specs.Names.{is_among}
-use Rattle.lz_lines.specs.Fields.{field, number}
+use Rattle.lz_lines.specs.Fields.{number}
+use Rattle.lz_lines.specs.References.{wrong_inputs, wrong_numbers, wrong_output}
+use Rattle.lz_lines.specs.Shared.{clock_line, input_line, output_line}
 use Rattle.n_cells.specs.declared.format.Format.{Format}
 use Rattle.n_cells.specs.declared.format.Format.TheVariants.{One, Two}
 use Rattle.n_cells.specs.declared.netlist.Flop.{Flop}
 use Rattle.n_cells.specs.declared.netlist.Stored.{Stored}
 use Rattle.n_cells.specs.declared.netlist.Stored.TheVariants.{Lut, Carry}
 use Rattle.n_cells.specs.Netlist.{NetlistValue, net_count, first_net, nets_of}
-use Rattle.n_cells.specs.Text.{clock_line, input_line, flop_line, cell_line, output_line}
+use Rattle.n_cells.specs.Text.{flop_line, cell_line}
 use Rattle.n_text.specs.Raw.{model_line}
-
--- Numbers that are not below a bound, in fields of which the first has its blank at this place.
-abbrev pub wrong_nets : ℕ → ℕ → List ℕ → List ℕ
-wrong_nets high at_ [] = []
-wrong_nets high at_ (n ∷ ns) = (if nat_lt n high then [] else (at_ + 1) ∷ []) ++ wrong_nets high (at_ + length (number n)) ns
-
--- the place of a name that stands behind these, where it is one of them
-abbrev pub wrong_name : List (List ℕ) → ℕ → List ℕ → List ℕ
-wrong_name names at_ name = if is_among name names then at_ ∷ [] else []
-
--- Lines of inputs behind these names, of which the first begins at this place: its name stands behind `input` and a blank.
-abbrev pub wrong_inputs : List (List ℕ) → ℕ → List Port → List ℕ
-wrong_inputs names at_ [] = []
-wrong_inputs names at_ (p ∷ ps) = wrong_name names (at_ + 6) p.name ++ wrong_inputs (names ++ p.name ∷ []) (at_ + length (input_line p)) ps
 
 -- the nets that a flip-flop's line names: the one that it takes, and in format 2 its enable
 abbrev pub flop_nets : Format → Flop → List ℕ
@@ -36,12 +23,12 @@ flop_nets Two f = f.net ∷ f.enable ∷ []
 -- Lines of flip-flops: the nets stand behind `ff` and a bit, and each is one of so many.
 abbrev pub wrong_flops : Format → ℕ → ℕ → List Flop → List ℕ
 wrong_flops format count at_ [] = []
-wrong_flops format count at_ (f ∷ fs) = wrong_nets count (at_ + 4) (flop_nets format f) ++ wrong_flops format count (at_ + length (flop_line format f)) fs
+wrong_flops format count at_ (f ∷ fs) = wrong_numbers count (at_ + 4) (flop_nets format f) ++ wrong_flops format count (at_ + length (flop_line format f)) fs
 
 -- The line of a cell whose first net has this number: each net that it reads is smaller.
 abbrev pub wrong_cell : ℕ → ℕ → Stored → List ℕ
-wrong_cell next at_ (Lut leaves table) = wrong_nets next (at_ + 3 + length (number (length leaves))) leaves
-wrong_cell next at_ (Carry a b c) = wrong_nets next (at_ + 5) (a ∷ b ∷ c ∷ [])
+wrong_cell next at_ (Lut leaves table) = wrong_numbers next (at_ + 3 + length (number (length leaves))) leaves
+wrong_cell next at_ (Carry a b c) = wrong_numbers next (at_ + 5) (a ∷ b ∷ c ∷ [])
 
 abbrev pub wrong_cells : ℕ → ℕ → List Stored → List ℕ
 wrong_cells next at_ [] = []
@@ -52,8 +39,7 @@ abbrev pub wrong_outputs : List (List ℕ) → ℕ → ℕ → List Port → Lis
 wrong_outputs names count at_ [] nets = []
 wrong_outputs names count at_ (p ∷ ps) [] = []
 wrong_outputs names count at_ (p ∷ ps) (ns ∷ more) =
-    wrong_name names (at_ + 7) p.name ++ wrong_nets count (at_ + 6 + length (field p.name)) ns
-    ++ wrong_outputs (names ++ p.name ∷ []) count (at_ + length (output_line p ns)) ps more
+    wrong_output names count at_ p.name ns ++ wrong_outputs (names ++ p.name ∷ []) count (at_ + length (output_line p.name ns)) ps more
 
 -- the places at which the lines of each kind begin
 abbrev pub inputs_at : Format → NetlistValue → ℕ

@@ -1,5 +1,4 @@
-ghost use Rattle.std.specs.Prelude.{◌≡◌, ◌≤◌, ◌^◌, IsTrue, Some, length, []};
-ghost use Rattle.lz_lines.specs.Fields.{IsNameField};
+ghost use Rattle.std.specs.Prelude.{◌≡◌, ◌≤◌, IsTrue};
 ghost use Rattle.lz_lines.specs.Forms.{Anything, Obtains, Parted};
 ghost use Rattle.lz_lines.specs.Keywords.{all_apart};
 ghost use Rattle.n_cells.specs.Form.{leaves_of};
@@ -9,32 +8,24 @@ ghost use Rattle.n_text.specs.Keys.{key_word};
 
 use crate::line::{Key, Line};
 use crate::raw_cell::RawCell;
-use lz_base::{Items, Name, Num, Port};
+use lz_base::{Items, Num, Port};
 use lz_lines::{
-    Unread, end_line, read_bit, read_hex, read_key, read_name, read_number, read_numbers,
+    Unread, end_line, read_bit, read_key, read_name_copy, read_number, read_numbers, read_table,
 };
 use n_cells::{Flop, Format, LEAVES};
 use std::alloc::Global;
 
-/// Takes a name, which is copied.
-pub(crate) fn read_copy<'a>(alloc: Global, bytes: &'a [u8]) -> Result<(Name, &'a [u8]), Unread>
-    ensures { Obtains IsNameField Parted (λ r. r.0) (λ r. r.1.now) bytes.now result }
-{
-    let (name, rest) = read_name(bytes)?;
-    Ok((Name::new(alloc, name)?, rest))
-}
-
 fn read_clock<'a>(alloc: Global, bytes: &'a [u8]) -> Result<(Option<Line>, &'a [u8]), Unread>
     ensures { Obtains (Tail Format.Two Key.Clock) Anything (λ r. r.0) (λ r. r.1.now) bytes.now result }
 {
-    let (name, rest) = read_copy(alloc, bytes)?;
+    let (name, rest) = read_name_copy(alloc, bytes)?;
     end_line(Some(Line::Clock(name)), rest)
 }
 
 fn read_input<'a>(alloc: Global, bytes: &'a [u8]) -> Result<(Option<Line>, &'a [u8]), Unread>
     ensures { Obtains (Tail Format.Two Key.Input) Anything (λ r. r.0) (λ r. r.1.now) bytes.now result }
 {
-    let (name, rest) = read_copy(alloc, bytes)?;
+    let (name, rest) = read_name_copy(alloc, bytes)?;
     let (width, rest) = read_number(rest, 1, 128)?;
     let port = Port {
         name,
@@ -64,22 +55,14 @@ fn read_flop(format: Format, bytes: &[u8]) -> Result<(Option<Line>, &[u8]), Unre
 }
 
 // The most leaves of a look-up table.
-fn most_leaves(format: Format) -> usize
+fn most_leaves(format: Format) -> u128
     ensures most { result ≡ leaves_of format }
     ensures few { result ≤ most_leaves }
 {
     match format {
         Format::One => 4,
-        Format::Two => LEAVES,
+        Format::Two => LEAVES as u128,
     }
-}
-
-// The bits of a table of so many leaves.
-fn table_width(leaves: u32) -> u32
-    requires { leaves ≤ most_leaves }
-    ensures { result ≡ 2 ^ leaves }
-{
-    1 << leaves
 }
 
 fn read_lut<'a>(
@@ -89,10 +72,8 @@ fn read_lut<'a>(
 ) -> Result<(Option<Line>, &'a [u8]), Unread>
     ensures { Obtains (Tail format Key.Lut) Anything (λ r. r.0) (λ r. r.1.now) bytes.now result }
 {
-    let (count, rest) = read_number(bytes, 0, most_leaves(format) as u128)?;
-    let rest = read_numbers(rest, count as usize, count as usize, u128::MAX, nets)?;
-    let (table, rest) = read_hex(rest, table_width(count as u32))?;
-    end_line(Some(Line::Cell(RawCell::lut(nets, table as u64))), rest)
+    let (table, rest) = read_table(bytes, most_leaves(format), nets)?;
+    end_line(Some(Line::Cell(RawCell::lut(nets, table))), rest)
 }
 
 fn read_carry(bytes: &[u8]) -> Result<(Option<Line>, &[u8]), Unread>
@@ -111,7 +92,7 @@ fn read_output<'a>(
 ) -> Result<(Option<Line>, &'a [u8]), Unread>
     ensures { Obtains (Tail Format.Two Key.Output) Anything (λ r. r.0) (λ r. r.1.now) bytes.now result }
 {
-    let (name, rest) = read_copy(alloc, bytes)?;
+    let (name, rest) = read_name_copy(alloc, bytes)?;
     let rest = read_numbers(rest, 1, 128, u128::MAX, nets)?;
     let port = Port {
         name,

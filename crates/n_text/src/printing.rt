@@ -1,46 +1,18 @@
 ghost use Rattle.std.specs.Prelude.{◌≡◌, ◌<◌, ◌++◌, flat_map, OnOk, IfOk};
-ghost use Rattle.std.specs.Option.{option_copied};
 ghost use Rattle.lz_base.specs.Names.{IsName};
-ghost use Rattle.lz_lines.specs.Fields.{number};
+ghost use Rattle.lz_lines.specs.Fields.{Each};
 ghost use Rattle.n_cells.specs.Cell.{stored_of};
-ghost use Rattle.n_cells.specs.Form.{bound, ClockNamed, PortsNamed, CellsBelow, HasForm};
-ghost use Rattle.n_cells.specs.Netlist.{HasShape, AllBelow, ReadsBelow, FlopsBelow, OutputsBelow};
-ghost use Rattle.n_cells.specs.Text.{input_line, flop_line, cell_line, output_line, output_lines, clock_line, text};
+ghost use Rattle.n_cells.specs.Form.{bound, CellsBelow, HasForm};
+ghost use Rattle.n_cells.specs.Netlist.{HasShape, ReadsBelow, FlopsBelow, OutputsBelow};
+ghost use Rattle.n_cells.specs.Text.{flop_line, cell_line, output_lines, text};
 
-use lz_base::{Name, Num, OutOfMemory, Port};
-use lz_lines::{push_bit, push_field, push_hex, push_line_end, push_number};
+use lz_base::OutOfMemory;
+use lz_lines::{
+    push_bit, push_clock, push_field, push_inputs, push_line_end, push_number, push_output,
+    push_table,
+};
 use n_cells::{Cell, Flop, Format, Netlist};
 use std::alloc::Global;
-
-fn push_numbers(out: &mut Vec<u8>, ns: &[Num]) -> Result<(), OutOfMemory>
-    ensures text { OnOk result (out.new.items ≡ out.old.items ++ flat_map number ns.now) }
-    ensures below { OnOk result (AllBelow bound ns.now) }
-{
-    for n in ns {
-        push_number(out, *n)?;
-    }
-    Ok(())
-}
-
-fn push_input(out: &mut Vec<u8>, port: &Port) -> Result<(), OutOfMemory>
-    ensures text { OnOk result (out.new.items ≡ out.old.items ++ input_line port.now) }
-    ensures named { OnOk result (IsName port.now.name) }
-{
-    out.extend_from_slice(b"input")?;
-    push_field(out, port.name.bytes())?;
-    push_number(out, u128::from(port.width))?;
-    push_line_end(out)
-}
-
-fn push_inputs(out: &mut Vec<u8>, ports: &[Port]) -> Result<(), OutOfMemory>
-    ensures text { OnOk result (out.new.items ≡ out.old.items ++ flat_map input_line ports.now) }
-    ensures named { OnOk result (PortsNamed ports.now) }
-{
-    for port in ports {
-        push_input(out, port)?;
-    }
-    Ok(())
-}
 
 fn push_flop(out: &mut Vec<u8>, flop: &Flop) -> Result<(), OutOfMemory>
     ensures text { OnOk result (out.new.items ≡ out.old.items ++ flop_line Format.Two flop.now) }
@@ -64,6 +36,7 @@ fn push_flops(out: &mut Vec<u8>, flops: &[Flop]) -> Result<(), OutOfMemory>
     Ok(())
 }
 
+#[tactic(auto, using(crate::proofs::Spelling::within_bound))]
 fn push_cell(out: &mut Vec<u8>, cell: Cell<'_>) -> Result<(), OutOfMemory>
     requires { HasShape (stored_of cell) }
     ensures text { OnOk result (out.new.items ≡ out.old.items ++ cell_line (stored_of cell.entry)) }
@@ -72,9 +45,7 @@ fn push_cell(out: &mut Vec<u8>, cell: Cell<'_>) -> Result<(), OutOfMemory>
     match cell {
         Cell::Lut { leaves, table } => {
             out.extend_from_slice(b"lut")?;
-            push_number(out, leaves.len() as u128)?;
-            push_numbers(out, leaves)?;
-            push_hex(out, 1u32 << leaves.len(), u128::from(table))?;
+            push_table(out, leaves, table)?;
             push_line_end(out)
         }
         Cell::Carry(a, b, c) => {
@@ -97,41 +68,16 @@ fn push_cells(out: &mut Vec<u8>, netlist: &Netlist) -> Result<(), OutOfMemory>
     Ok(())
 }
 
-fn push_output(out: &mut Vec<u8>, port: &Port, nets: &[Num]) -> Result<(), OutOfMemory>
-    ensures text { OnOk result (out.new.items ≡ out.old.items ++ output_line port.now nets.now) }
-    ensures named { OnOk result (IsName port.now.name) }
-    ensures below { OnOk result (AllBelow bound nets.now) }
-{
-    out.extend_from_slice(b"output")?;
-    push_field(out, port.name.bytes())?;
-    push_numbers(out, nets)?;
-    push_line_end(out)
-}
-
 fn push_outputs(out: &mut Vec<u8>, netlist: &Netlist) -> Result<(), OutOfMemory>
     ensures text { OnOk result (out.new.items ≡ out.old.items ++ output_lines netlist.now.outputs netlist.now.nets) }
-    ensures named { OnOk result (PortsNamed netlist.now.outputs) }
+    ensures named { OnOk result (Each (λ p. IsName p.name) netlist.now.outputs) }
     ensures below { OnOk result (OutputsBelow bound netlist.now.nets) }
 {
     let outputs = netlist.outputs();
     for i in 0..outputs.len() {
-        push_output(out, &outputs[i], netlist.output_nets(i))?;
+        push_output(out, &outputs[i].name, netlist.output_nets(i))?;
     }
     Ok(())
-}
-
-fn push_clock(out: &mut Vec<u8>, clock: Option<&Name>) -> Result<(), OutOfMemory>
-    ensures text { OnOk result (out.new.items ≡ out.old.items ++ clock_line (option_copied clock.entry)) }
-    ensures named { OnOk result (ClockNamed (option_copied clock.entry)) }
-{
-    match clock {
-        Some(name) => {
-            out.extend_from_slice(b"clock")?;
-            push_field(out, name.bytes())?;
-            push_line_end(out)
-        }
-        None => Ok(()),
-    }
 }
 
 /// The one text of a netlist in format 2. The netlist has the form of those that are read back from their texts.

@@ -4,10 +4,10 @@ ghost use Rattle.n_text.specs.Answers.{IsText};
 ghost use Rattle.n_text.specs.Grammar.{Rest};
 ghost use Rattle.n_text.specs.Raw.{bare, head};
 
-use crate::lines::{read_copy, read_line};
+use crate::lines::read_line;
 use crate::raw::Raw;
 use lz_base::Name;
-use lz_lines::{Unread, read_end, read_word};
+use lz_lines::{Unread, read_end, read_name_copy, read_word};
 use n_cells::Format;
 use std::alloc::Global;
 
@@ -44,7 +44,7 @@ pub(crate) fn read_raw(alloc: Global, format: Format, bytes: &[u8]) -> Result<Ra
     ensures { Obtains (IsText format) Nothing (λ r. r) (λ _. []) bytes.now result }
 {
     let rest = read_word(bytes, head(format))?;
-    let (name, rest) = read_copy(alloc, rest)?;
+    let (name, rest) = read_name_copy(alloc, rest)?;
     let rest = read_word(rest, b"\n")?;
     read_lines(alloc, format, rest, name)
 }

@@ -1,43 +1,28 @@
-ghost use Rattle.std.specs.Prelude.{◌≡◌, ◌≤◌, ◌<◌, ◌+◌, ◌^◌, [], length, IfOk, OnOk, IfErr};
-ghost use Rattle.std.specs.Option.{option_copied, option_to_list};
+ghost use Rattle.std.specs.Prelude.{◌≡◌, ◌≤◌, ◌<◌, ◌^◌, [], length, OnOk, IfErr};
 ghost use Rattle.lz_base.specs.Limits.{text_limit};
-ghost use Rattle.lz_base.specs.Met.{Met};
+ghost use Rattle.lz_base.specs.declared.rule.Rule.TheVariants.{N2};
+ghost use Rattle.lz_lines.specs.References.{IsWrong};
 ghost use Rattle.n_cells.specs.Form.{HasForm};
-ghost use Rattle.n_cells.specs.Text.{clock_line, text};
-ghost use Rattle.n_text.specs.Answers.{IsWrong};
+ghost use Rattle.n_cells.specs.Text.{text};
 ghost use Rattle.n_text.specs.Parts.{parts_value};
 ghost use Rattle.n_text.specs.Raw.{model_line};
 ghost use Rattle.n_text.specs.Referred.{wrong_places};
 
 use crate::counting::{count_front, count_nets};
-use crate::judging::{judge_cells, judge_flops};
-use crate::names::{judge_inputs, judge_outputs};
+use crate::judging::{judge_cells, judge_flops, judge_outputs};
 use crate::raw::Parts;
-use lz_base::{Name, OutOfMemory, Stop, meet, no_names};
+use lz_base::{Name, Rule, Stop, no_names};
+use lz_lines::{judge_inputs, meet_clock};
 use n_cells::Format;
 use std::alloc::Global;
-use std::collections::BTreeSet;
 
-// Meets the clock's name, and gives the place behind its line.
+// The place behind the model's line, which has the same length in each format.
 #[tactic(auto, using(crate::proofs::Faulting::model_length))]
-fn meet_clock<'a>(
-    format: Format,
-    name: &Name,
-    clock: Option<&'a Name>,
-    met: &mut BTreeSet<&'a [u8]>,
-) -> Result<usize, OutOfMemory>
-    requires { length (model_line format name.now) + length (clock_line (option_copied clock)) < 2 ^ 64 }
-    ensures place { IfOk result (λ behind. behind ≡ length (model_line format name.now) + length (clock_line (option_copied clock.entry))) }
-    ensures met { OnOk result (Met met.old [] → Met met.new (option_to_list (option_copied clock.entry))) }
+fn behind_model(format: Format, name: &Name) -> usize
+    requires { length (model_line format name.now) < 2 ^ 64 }
+    ensures { result ≡ length (model_line format name.now) }
 {
-    let at = 16 + name.bytes().len();
-    match clock {
-        Some(clock) => {
-            meet(met, clock.bytes())?;
-            Ok(at + 7 + clock.bytes().len())
-        }
-        None => Ok(at),
-    }
+    16 + name.bytes().len()
 }
 
 /// Judges the references of lines that were read: the fault N2 is at the least byte of a wrong number or of a name that
@@ -46,7 +31,7 @@ pub(crate) fn judge(alloc: Global, format: Format, parts: Parts<'_>) -> Result<(
     requires form { HasForm format (parts_value parts) }
     requires room { length (text format (parts_value parts)) ≤ text_limit }
     ensures right { OnOk result (wrong_places format (parts_value parts.entry) ≡ []) }
-    ensures fault { IfErr result (IsWrong (wrong_places format (parts_value parts.entry))) }
+    ensures fault { IfErr result (IsWrong N2 (wrong_places format (parts_value parts.entry))) }
 {
     let Parts {
         name,
@@ -60,8 +45,8 @@ pub(crate) fn judge(alloc: Global, format: Format, parts: Parts<'_>) -> Result<(
     let mut met = no_names(alloc);
     let first = count_front(inputs, flops);
     let count = first + count_nets(cells);
-    let at = meet_clock(format, name, clock, &mut met)?;
-    let at = judge_inputs(inputs, &mut met, at)?;
+    let at = meet_clock(clock, &mut met, behind_model(format, name))?;
+    let at = judge_inputs(Rule::N2, inputs, &mut met, at)?;
     let at = judge_flops(format, flops, count, at)?;
     let at = judge_cells(cells, first, at)?;
     judge_outputs(outputs, nets, &mut met, count, at)?;

@@ -1,2 +1,4 @@
 pub mod Values
 pub mod Bodies
+pub mod Statements
+pub mod Cores

@@ -11,6 +11,3 @@ mod reading;
 mod taking;
 
 pub use reading::{one_module, read};
-
-#[cfg(test)]
-mod tests;

@@ -1,4 +1,4 @@
-use Rattle.n_text.proofs.Parts.{hand_broken}
+use Rattle.lz_lines.proofs.Standing.{hand_broken}
 use Rattle.n_text.proofs.lines.read_enable.Goals as goal
 
 pub returns-in_err-read_number-in-Two : goal.returns-in_err-read_number-in-Two

@@ -2,8 +2,9 @@ use Rattle.std.proofs.Common.{◌≡◌, ◌<◌, ◌∙◌, ap, List, ℕ, Some
 use Rattle.std.proofs.lemmas.Option.{slice_get_read}
 use Rattle.lz_base.specs.declared.name.Port.{Port}
 use Rattle.lz_base.specs.Names.{IsNew}
+use Rattle.lz_lines.proofs.Listed.{get_or_is}
 use Rattle.n_cells.specs.Netlist.{names_of}
-use Rattle.n_text.proofs.Filling.{next_new, get_or_is}
+use Rattle.n_text.proofs.Filling.{next_new}
 use Rattle.n_text.proofs.making.fill_outputs.Goals as goal
 
 pub output-requires-clause-new_name : goal.output-requires-clause-new_name

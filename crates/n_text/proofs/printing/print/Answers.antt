@@ -1,5 +1,5 @@
 use Rattle.std.proofs.Common.{rules}
-use Rattle.n_text.proofs.Forming.{fits_two}
+use Rattle.n_text.proofs.Forming.{clock_named, fits_two, ports_named}
 use Rattle.n_text.proofs.printing.print.Goals as goal
 
 pub returns-clause-form : goal.returns-clause-form
@@ -7,10 +7,10 @@ returns-clause-form c = record {
   lines = c.name.ensures.formed.begun.lines;
   fits = fits_two c.args.netlist.now c.name.ensures.formed;
   name = search rules;
-  clock = search rules;
-  inputs = search rules;
+  clock = clock_named _ (search rules);
+  inputs = ports_named _ (search rules);
   flops = search rules;
   cells = search rules;
-  outputs = search rules;
+  outputs = ports_named _ (search rules);
   nets = search rules;
 }

@@ -1,13 +1,14 @@
 use Rattle.std.proofs.Common.{◌≡◌, ◌∙◌, [], Err, ap, sym, subst}
 use Rattle.std.proofs.lemmas.Result.{err_from_is_err_and}
+use Rattle.lz_base.specs.declared.rule.Rule.TheVariants.{N2}
+use Rattle.lz_lines.specs.References.{IsWrong}
+use Rattle.lz_lines.proofs.Places.{whole_is, whole_only}
 use Rattle.n_cells.specs.declared.netlist.Netlist.{Netlist}
 use Rattle.n_cells.specs.Netlist.{NetlistValue}
-use Rattle.n_text.specs.Answers.{IsWrong}
 use Rattle.n_text.specs.Parts.{parts_value}
 use Rattle.n_text.specs.Referred.{wrong_places}
 use Rattle.n_text.proofs.Referring.{none_wrong, well_formed}
 use Rattle.n_text.proofs.Texts.{answers_wrong, broken_fault, broken_only, refused, text_of}
-use Rattle.lz_lines.proofs.Places.{whole_is, whole_only}
 use Rattle.n_text.proofs.reading.read_in.Goals as goal
 
 pub returns-in-Err-clause-only : goal.returns-in-Err-clause-only
@@ -29,7 +30,7 @@ pub returns-in_err-judge-clause-fault : goal.returns-in_err-judge-clause-fault
 returns-in_err-judge-clause-fault c =
     let p = err_from_is_err_and c.from_residual.result c.from_residual.ensures.1 in
     refused c.args.format c.from_residual.result c.in_err-judge.field-0.0 c.args.bytes.now c.in-Ok.raw (p.1 ∙ ap Err p.2)
-    (subst (λ (m : NetlistValue). IsWrong (wrong_places c.args.format m) c.in_err-judge.field-0.0) c.parts.ensures c.in_err-judge.ensures.fault) (text_of c.args.format c.args.bytes.now c.in-Ok.raw c.in-Ok.ensures)
+    (subst (λ (m : NetlistValue). IsWrong N2 (wrong_places c.args.format m) c.in_err-judge.field-0.0) c.parts.ensures c.in_err-judge.ensures.fault) (text_of c.args.format c.args.bytes.now c.in-Ok.raw c.in-Ok.ensures)
 
 pub make-requires : goal.make-requires
 make-requires c =

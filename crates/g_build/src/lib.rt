@@ -11,3 +11,6 @@ mod part;
 mod sum;
 
 pub use building::Builder;
+
+#[cfg(test)]
+mod tests;

@@ -1,0 +1,5 @@
+pub mod Words
+pub mod Moves
+pub mod Operators
+pub mod Sums
+pub mod Products

@@ -1,5 +1,5 @@
 -- What the synthesis of a source answers.
-use Rattle.std.specs.Prelude.{◌≡◌, ◌⊎◌, ℕ, ◌<◌, ◌≤◌, List, length}
+use Rattle.std.specs.Prelude.{◌≡◌, ◌⊎◌, ℕ, ◌<◌, ◌≤◌, List, length, None, Some}
 use Rattle.lz_base.specs.Limits.{source_limit}
 use Rattle.lz_base.specs.declared.fault.Fault.{Fault}
 use Rattle.lz_base.specs.declared.rule.Rule.TheVariants.{E1, E2, U1}
@@ -17,7 +17,7 @@ use Rattle.v_syntax.specs.Tokens.{Lexes, BreaksAt}
 use Rattle.v_syntax.specs.Small.{IsSmall}
 use Rattle.v_parser.specs.Refusal as parser
 use Rattle.v_meaning.specs.SmallMachine.{module_machine, EverySchedule}
-use Rattle.s_flow.specs.SmallText.{IsSmallText}
+use Rattle.s_flow.specs.SmallText.{first_broken, IsSmallText}
 use Rattle.s_flow.specs.Front.{IsBroken}
 use Rattle.s_cli.specs.declared.status.Status.{Status}
 use Rattle.s_cli.specs.declared.status.Status.TheVariants as status
@@ -52,6 +52,8 @@ pub record IsJudged (source : List ℕ) (result : Status) : Type 0 where
   pub unlexed : (at : ℕ) → length source ≤ source_limit → BreaksAt source at → IsUnlessMemory result (status.Refused (record { rule = E2; at = at }))
   pub unparsed : (tokens : List Token) → length source ≤ source_limit → Lexes source tokens → ((m : Module) → Derives tokens m → ⊥)
       → IsRefusedUnlessMemory result (parser.IsRefused tokens (length source))
-  pub unsupported : (tokens : List Token) (m : Module) → length source ≤ source_limit → Lexes source tokens → Derives tokens m → ((s : SmallModule) → IsSmall tokens s → ⊥)
-      → IsUnlessMemory result (status.Refused (record { rule = U1; at = 0 }))
+  pub untyped : (tokens : List Token) (m : Module) (fault : Fault) → length source ≤ source_limit → Lexes source tokens → Derives tokens m → first_broken m ≡ Some fault
+      → IsUnlessMemory result (status.Refused fault)
+  pub unsupported : (tokens : List Token) (m : Module) → length source ≤ source_limit → Lexes source tokens → Derives tokens m → first_broken m ≡ None
+      → ((s : SmallModule) → IsSmall tokens s → ⊥) → IsUnlessMemory result (status.Refused (record { rule = U1; at = 0 }))
   pub small : (s : SmallModule) → length source ≤ source_limit → IsSmallText source s → IsUnlessMemory result status.Ok

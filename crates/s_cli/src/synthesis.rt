@@ -8,6 +8,7 @@ use lz_base::{Fault, Rule, SOURCE_LIMIT, Stop};
 use s_flow::{front, make};
 use std::alloc::Global;
 use v_lexer::one_reading;
+use v_parser::one_module;
 
 // The text of a netlist that realises the module of the source.
 fn translated(alloc: Global, source: &[u8]) -> Result<Vec<u8>, Stop>
@@ -15,6 +16,7 @@ fn translated(alloc: Global, source: &[u8]) -> Result<Vec<u8>, Stop>
     ensures { Decides command.Synth (source.now ∷ []) result }
 {
     one_reading();
+    one_module();
     let module = match front(alloc, source) {
         Ok(module) => module,
         Err(stop) => return Err(stop),

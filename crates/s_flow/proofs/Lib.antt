@@ -3,7 +3,6 @@ pub mod Tables
 pub mod Schedules
 pub mod Follow
 pub mod Lines
-pub mod Refused
 pub mod Fitting
 pub mod Streams
 pub mod InTurn

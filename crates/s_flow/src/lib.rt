@@ -1,9 +1,10 @@
 //! From the bytes of a source to a netlist, and from a netlist and a stimulus to a trace.
 //!
-//! It stands on the lexer, on the reader of small modules, on the maker of netlists and on their simulators. `front`
-//! reads a small module exactly where the bytes are a text of one; `make` gives a netlist that realises it: its machine
-//! shows only what the module's machine may show under every schedule. `simulate` and `simulate_lanes` give the trace
-//! of a netlist's run over a stimulus, the second one for up to 64 streams in turn.
+//! It stands on the lexer, the parser, the rules of names and numbers, the reader of small modules, the maker of netlists
+//! and their simulators. `front` reads a small module exactly where the bytes are a text of one that breaks no rule, and
+//! otherwise names the first rule that they break; `make` gives a netlist that realises it: its machine shows only what
+//! the module's machine may show under every schedule. `simulate` and `simulate_lanes` give the trace of a netlist's run
+//! over a stimulus, the second one for up to 64 streams in turn.
 #![tactic(auto)]
 
 mod making;

@@ -1,2 +1,3 @@
 pub mod First
 pub mod Maps
+pub mod WordLaws

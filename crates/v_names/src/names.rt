@@ -1,6 +1,7 @@
-ghost use Rattle.std.specs.Prelude.{◌≡◌, ◌<◌, ◌++◌, ◌∷◌, [], length, slice_get, OnOk, OnErr};
+ghost use Rattle.std.specs.Prelude.{◌≡◌, ◌≤◌, ◌<◌, ◌++◌, ◌∷◌, [], length, slice_get, IfSome, OnOk, OnErr};
 ghost use Rattle.std.specs.Option.{option_copied};
 ghost use Rattle.v_meaning.specs.Names.{entry_of, entry_or};
+ghost use Rattle.v_names.specs.Words.{FitsKind, IsWord};
 
 use lz_base::{Items, Name, OutOfMemory};
 use std::alloc::Global;
@@ -8,7 +9,8 @@ use std::collections::BTreeMap;
 use std::marker::Model;
 use v_meaning::{Entry, Kind};
 
-/// What is known of a name: its number, and of its entry the kind, the width, the sign and the number of its lowest bit.
+/// What is known of a name: its number, and of its entry the kind, the width, the sign, the number of its lowest bit, and
+/// whether it was declared with a range.
 #[derive(Clone, Copy, Debug, PartialEq, Eq)]
 pub struct Known {
     pub number: u32,
@@ -16,9 +18,10 @@ pub struct Known {
     pub width: u32,
     pub signed: bool,
     pub low: u32,
+    pub is_vector: bool,
 }
 
-/// The declared names of a module in text order. Contracts see it as the list of their entries.
+/// The declared names of a module in text order, each of 1 to 128 bits. Contracts see it as the list of their entries.
 #[derive(Drop)]
 pub struct Names {
     alloc: Global,
@@ -31,12 +34,13 @@ impl Model for Names {
     ghost use Rattle.std.specs.Prelude.{List};
     ghost use Rattle.v_meaning.specs.declared.names.Entry.{Entry};
     ghost use Rattle.v_names.specs.Numbers.{AreNumbers};
+    ghost use Rattle.v_names.specs.Words.{AreWords};
 
     ghost Value = { List Entry };
 
     ghost view = { λ n. n.entries };
 
-    ghost invariant = { λ n. AreNumbers n.numbers n.entries };
+    ghost invariant = { λ n. AreNumbers n.numbers n.entries × AreWords n.entries };
 }
 
 impl Names {
@@ -54,6 +58,7 @@ impl Names {
     /// One more name behind the others, which may have the name of an earlier one. `OutOfMemory` is the only other
     /// answer; it also comes where 2^32 - 1 names are there.
     pub fn push(&mut self, entry: Entry) -> Result<(), OutOfMemory>
+        requires word { IsWord entry }
         ensures ok { OnOk result (self.new ≡ self.old ++ entry ∷ []) }
         ensures err { OnErr result (self.new ≡ self.old) }
     {
@@ -85,7 +90,8 @@ impl Names {
 
     /// The entry of a number; `None` where there are not so many. It takes no memory.
     pub fn entry(&self, number: u32) -> Option<&Entry>
-        ensures { option_copied result ≡ slice_get self.now number }
+        ensures entry { option_copied result ≡ slice_get self.now number }
+        ensures word { IfSome result (λ e. IsWord e.now) }
     {
         self.entries.get(number as usize)
     }
@@ -100,13 +106,18 @@ impl Names {
         }
     }
 
-    /// What is known of a name. A name that is declared nowhere is of one bit that is 0. It takes no memory.
+    /// What is known of a name, whose width is from 1 to 128. A name that is declared nowhere is of one bit that is 0. It
+    /// takes no memory.
     pub fn known(&self, name: &Name) -> Known
         ensures number { entry_or (slice_get self.now result.number) ≡ entry_of self.now name.now }
         ensures kind { result.kind ≡ (entry_of self.now name.now).kind }
         ensures width { result.width ≡ (entry_of self.now name.now).width }
         ensures signed { result.signed ≡ (entry_of self.now name.now).signed }
         ensures low { result.low ≡ (entry_of self.now name.now).low }
+        ensures has_bit { 1 ≤ result.width }
+        ensures within { result.width ≤ 128 }
+        ensures fits { FitsKind result.width result.kind }
+        ensures vector { result.is_vector ≡ (entry_of self.now name.now).is_vector }
     {
         let number = self.number_of(name);
         match self.entry(number) {
@@ -116,6 +127,7 @@ impl Names {
                 width: entry.width,
                 signed: entry.signed,
                 low: entry.low,
+                is_vector: entry.is_vector,
             },
             None => Known {
                 number,
@@ -123,6 +135,7 @@ impl Names {
                 width: 1,
                 signed: false,
                 low: 0,
+                is_vector: false,
             },
         }
     }

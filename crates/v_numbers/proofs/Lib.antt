@@ -4,3 +4,4 @@ pub mod Counted
 pub mod Padded
 pub mod Apart
 pub mod Fitting
+pub mod Widths

@@ -13,6 +13,6 @@ mod reading;
 mod spelled;
 mod value;
 
-pub use reading::literal;
+pub use reading::{literal, width_up_to_129};
 pub use spelled::{has_impedance, has_unknown, is_unsized, is_wrong};
 pub use value::{open_bits, value_with};

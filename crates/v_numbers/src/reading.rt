@@ -1,4 +1,4 @@
-ghost use Rattle.std.specs.Prelude.{◌≡◌, ◌≤◌, ◌==◌, ◌||◌, nat_lt, false};
+ghost use Rattle.std.specs.Prelude.{◌≡◌, ◌≤◌, ◌==◌, ◌||◌, nat_lt, false, min};
 ghost use Rattle.v_meaning.specs.Literals.{based_literal, decimal_value, behind_mark, behind_sign, digits_in, literal, literal_of};
 ghost use Rattle.v_meaning.specs.Literals.{is_wrong_number};
 ghost use Rattle.v_numbers.specs.Fit.{IsFit};
@@ -21,6 +21,17 @@ pub fn literal(spelling: &Spelling) -> Literal
         Spelling::Decimal(digits) => literal_behind(32, true, b'd', digits.bytes()),
         Spelling::Based(digits) => based(32, digits.bytes()),
         Spelling::Sized(size, digits) => based(width_of(size.bytes()), digits.bytes()),
+    }
+}
+
+/// How many bits a number has, or 129 where it has more. A wrong number has as many as it is written with.
+#[tactic(auto, using(crate::proofs::Widths::based_width))]
+pub fn width_up_to_129(spelling: &Spelling) -> u32
+    ensures { result ≡ min (literal_of spelling.now).width 129 }
+{
+    match spelling {
+        Spelling::Decimal(_) | Spelling::Based(_) => 32,
+        Spelling::Sized(size, _) => decimal_up_to(size.bytes(), 129) as u32,
     }
 }
 

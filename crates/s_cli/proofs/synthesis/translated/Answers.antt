@@ -6,7 +6,7 @@ use Rattle.s_cli.proofs.synthesis.translated.Goals as goal
 
 pub returns-in-Err : goal.returns-in-Err
 returns-in-Err c =
-    front_refused (record { tokens = c.one_reading.ensures.tokens; place = c.one_reading.ensures.place; apart = c.one_reading.ensures.apart }) c.args.source.now c.in-Err.stop c.requires c.in-Err.ensures
+    front_refused (record { tokens = c.one_reading.ensures.tokens; place = c.one_reading.ensures.place; apart = c.one_reading.ensures.apart; modules = c.one_module.ensures }) c.args.source.now c.in-Err.stop c.requires c.in-Err.ensures
 
 pub returns : goal.returns
 returns c =
@@ -20,4 +20,4 @@ returns c =
       realised = c.in_ok-netlist.ensures.realises;
       printed = c.in_ok-print.ensures.text;
     } in
-    (t, judged_done (record { tokens = c.one_reading.ensures.tokens; place = c.one_reading.ensures.place; apart = c.one_reading.ensures.apart }) c.args.source.now _ t)
+    (t, judged_done (record { tokens = c.one_reading.ensures.tokens; place = c.one_reading.ensures.place; apart = c.one_reading.ensures.apart; modules = c.one_module.ensures }) c.args.source.now _ t)

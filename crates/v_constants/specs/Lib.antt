@@ -1,0 +1,4 @@
+pub mod Classes
+pub mod Bodies
+pub mod Constants
+pub mod Verdicts

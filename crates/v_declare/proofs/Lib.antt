@@ -1,0 +1,11 @@
+pub mod Walking
+pub mod Staying
+pub mod Ranges
+pub mod ExprFaults
+pub mod StmtFaults
+pub mod Written
+pub mod GroupFaults
+pub mod Made
+pub mod WholeModule
+pub mod Items
+pub mod Depths

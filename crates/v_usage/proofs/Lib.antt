@@ -1,0 +1,4 @@
+pub mod Counting
+pub mod Variants
+pub mod Arms
+pub mod Least

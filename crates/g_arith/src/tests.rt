@@ -34,6 +34,12 @@ fn gates(alloc: Global, book: &RuleBook) -> Result<usize, OutOfMemory> {
     Ok(builder.finish().gates().len())
 }
 
+// Whether 3 is less than 5.
+fn three_below_five(alloc: Global, book: &RuleBook) -> Result<Num, OutOfMemory> {
+    let mut builder = Builder::new(alloc, inputs(alloc)?, book)?;
+    less(alloc, &mut builder, &[1, 1, 0, 0], &[1, 0, 1, 0], false)
+}
+
 // Whether 5 is less than 13, which as a signed word of four bits is -3.
 fn order(alloc: Global, book: &RuleBook, signed: bool) -> Result<Num, OutOfMemory> {
     let mut builder = Builder::new(alloc, inputs(alloc)?, book)?;
@@ -47,6 +53,7 @@ fn subtracts_and_compares(rt: HostRuntime) -> Result<(), Fail> {
     let bits = difference(alloc, &book)?;
     assert_eq!(rt; bits.as_slice(), [0, 1, 1, 1].as_slice());
     assert_eq!(rt; gates(alloc, &book)?, 4);
+    assert_eq!(rt; three_below_five(alloc, &book)?, 1);
     assert_eq!(rt; order(alloc, &book, false)?, 1);
     assert_eq!(rt; order(alloc, &book, true)?, 0);
     Ok(())

@@ -1,19 +1,15 @@
-//! A stand-in for v_sites with its contract.
+//! The places of a module whose bits the source leaves open.
+//!
+//! A site is a number with x bits, or a select of a bit or word whose index may be out of range (IEEE Std 1364-2005, 3.5.1,
+//! 5.2.1 and 5.2.2). The crate stands on `v_syntax` for the module, on `v_meaning` for the definition of sites, on
+//! `v_numbers` and `v_constants` for numbers and constant indices, on `v_names` for the declared names, on `v_core` for the
+//! form that sites have, and on `v_typing` for what it means that a module can be typed. Promised is that `sites` finds
+//! exactly the sites of the module, each with its place and its number of bits, in text order.
 #![tactic(auto)]
-ghost use Rattle.std.specs.Prelude.{◌≡◌, IfOk, true, map};
-ghost use Rattle.v_meaning.specs.Sites.{Site, module_sites};
-ghost use Rattle.v_sites.specs.Found.{site_in};
-ghost use Rattle.v_typing.specs.Sound.{are_sound_items};
 
-use lz_base::{Items, OutOfMemory};
-use std::alloc::Global;
-use v_core::TypedSite;
-use v_names::Names;
-use v_syntax::Module;
+mod exprs;
+mod finding;
+mod leaves;
+mod stmts;
 
-pub fn sites(alloc: Global, names: &Names, module: &Module) -> Result<Items<TypedSite>, OutOfMemory>
-    requires sound { are_sound_items names.now «module».now.items ≡ true }
-    ensures { IfOk result (λ found. map site_in found ≡ module_sites names.now «module».now.items) }
-{
-    Err(OutOfMemory)
-}
+pub use finding::sites;

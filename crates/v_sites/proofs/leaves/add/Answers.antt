@@ -1,0 +1,5 @@
+use Rattle.v_sites.proofs.Adding.{one_more}
+use Rattle.v_sites.proofs.leaves.add.Goals as goal
+
+pub returns : goal.returns
+returns c = one_more _ _ _ _ c.in_ok-push.ensures.ok

@@ -1,0 +1,4 @@
+pub mod Adding
+pub mod ExprReads
+pub mod StmtAccesses
+pub mod ItemUses

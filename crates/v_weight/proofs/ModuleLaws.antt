@@ -1,5 +1,5 @@
 -- What each item of a module weighs, and the module.
-use Rattle.std.proofs.Common.{◌≡◌, ◌≤◌, ◌+◌, ◌-◌, ℕ, List, [], ◌∷◌, map, Bool, true, Option, None, Some, refl, sym, ap, ◌∙◌, arith, min}
+use Rattle.std.proofs.Common.{◌≡◌, ◌≤◌, ◌+◌, ◌-◌, ℕ, List, [], ◌∷◌, map, Bool, true, Option, None, Some, refl, sym, ap, ◌∙◌, arith, min, subst}
 use Rattle.std.specs.Prelude.{◌^◌, sum}
 use Rattle.std.specs.List.{list_all}
 use Rattle.v_syntax.specs.declared.token.Ident.{Ident}
@@ -11,8 +11,6 @@ use Rattle.v_syntax.specs.declared.module.Setting.{Setting}
 use Rattle.v_syntax.specs.declared.module.Declared.{Declared}
 use Rattle.v_syntax.specs.declared.module.Item.{Item}
 use Rattle.v_syntax.specs.declared.module.Item.TheVariants as i
-use Rattle.v_meaning.specs.declared.names.Kind.{Kind}
-use Rattle.v_meaning.specs.declared.names.Kind.TheVariants as k
 use Rattle.v_meaning.specs.declared.names.Entry.{Entry}
 use Rattle.v_meaning.specs.Proper.{is_sound}
 use Rattle.v_meaning.specs.Weights.{declared_weight, net_weight, wire_weight, item_weight, weight_of, stmt_weight}
@@ -20,14 +18,6 @@ use Rattle.v_typing.specs.Sound.{is_sound_value, is_sound_item, are_sound_items,
 use Rattle.v_weight.specs.Saturated.{Same}
 use Rattle.v_weight.proofs.Saturating.{same_path}
 use Rattle.v_weight.proofs.Lists.{Adds}
-
--- ---- declarations
-
-abbrev with_kind : Entry → Kind → Entry
-with_kind e kind = record e { kind = kind }
-
-pub declared_is : (e : Entry) (kind : Kind) → e.kind ≡ kind → declared_weight (with_kind e kind) ≡ declared_weight e
-declared_is e kind is = sym (ap (λ (x : Kind). declared_weight (with_kind e x)) is)
 
 -- ---- items
 

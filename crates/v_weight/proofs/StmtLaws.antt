@@ -1,7 +1,8 @@
 -- What each kind of statement weighs, where a match has found it and its parts were taken out.
-use Rattle.std.proofs.Common.{◌≡◌, ◌<◌, ◌≤◌, ◌+◌, ◌*◌, ℕ, List, [], ◌∷◌, ◌++◌, map, length, drop, get_or, arith, Bool, true, false, refl, sym, ap, ◌∙◌, max}
+use Rattle.std.proofs.Common.{◌≡◌, ◌<◌, ◌≤◌, ◌+◌, ◌*◌, ℕ, List, [], ◌∷◌, ◌++◌, map, length, drop, get_or, arith, Bool, true, false, refl, sym, ap, ◌∙◌, max, subst}
 use Rattle.std.specs.Prelude.{◌&&◌, sum}
 use Rattle.std.specs.List.{list_all}
+use Rattle.std.proofs.Math.Numerals.{one-add}
 use Rattle.std.proofs.lemmas.List.{drop_all, map-append, append-nil}
 use Rattle.std.proofs.lemmas.List.Folds.{list_all-map}
 use Rattle.v_syntax.specs.declared.expr.Expr.{Expr}
@@ -51,10 +52,7 @@ compared_weight names x [] w = let h : x.at w ≡ 0 * w + x.at w + 0 = omega ari
 compared_weight names x (y ∷ xs) w =
     compared_weight names (weighed_by Shared b.Add (is_constant names y) x (weighed names (weighing names y))) xs w
     ∙ one_more (length xs) w (x.at w) (weight_at names y w) (sum (map (λ z. weight_at names z w) xs)) _ (sum_cons (λ z. weight_at names z w) y xs)
-    ∙ ap (λ (n : ℕ). n * w + x.at w + sum (map (λ z. weight_at names z w) (y ∷ xs))) (length_more (length xs))
-  where
-    length_more : (n : ℕ) → 1 + n ≡ length (y ∷ xs)
-    length_more n = omega arith
+    ∙ ap (λ (n : ℕ). n * w + x.at w + sum (map (λ z. weight_at names z w) (y ∷ xs))) (one-add (length xs))
 
 pub comparison_is : (names : List Entry) (subject : Expr) (arms : List Arm) → own_weight (compared_behind names (weighed names (weighing names subject)) (arms_items arms)) ≡ comparison_weight names subject arms
 comparison_is names subject arms =
@@ -78,14 +76,14 @@ labels_next names arms i a begun now more h is law c = record {
       let before : (t : Weighed) × (Stands now t × (compared_behind names t (arms_items (drop i arms)) ≡ compared_behind names s (arms_items arms))) = c.stands sound s p in
       (compared_behind names before.0 (label_items a.label), (law inner before.0 before.1.0,
       sym (compared_more names before.0 (label_items a.label) (arms_items (drop (i + 1) arms)))
-      ∙ sym (ap (λ (as : List Arm). compared_behind names before.0 (arms_items as)) (next_is arms i a h is)) ∙ before.1.1));
+      ∙ sym (ap (λ (zs : List Arm). compared_behind names before.0 (arms_items zs)) (next_is arms i a h is)) ∙ before.1.1));
 }
 
 pub labels_end : (names : List Entry) (arms : List Arm) (i : ℕ) (begun now : Counted) → length arms ≤ i → LabelsTo names arms i begun now →
     arms_sound names arms ≡ true → (s : Weighed) → Stands begun s → Stands now (compared_behind names s (arms_items arms))
 labels_end names arms i begun now h c sound s p =
     let before : (t : Weighed) × (Stands now t × (compared_behind names t (arms_items (drop i arms)) ≡ compared_behind names s (arms_items arms))) = c.stands sound s p in
-    subst (λ (t : Weighed). Stands now t) (sym (ap (λ (as : List Arm). compared_behind names before.0 (arms_items as)) (drop_all i arms h)) ∙ before.1.1) before.1.0
+    subst (λ (t : Weighed). Stands now t) (sym (ap (λ (zs : List Arm). compared_behind names before.0 (arms_items zs)) (drop_all i arms h)) ∙ before.1.1) before.1.0
 
 -- ---- statements
 
@@ -177,8 +175,8 @@ when_case names x kind subject arms more others depth inner k m r is p q compare
     (adds _ _ (compares (first_of (is_sound names subject) (arms_sound names arms) all) (ap (arms_sound names) p ∙ arms_right))
     (bodies (ap (arms_sound names) q ∙ arms_right) (d + 1) (deeper d deep)))
     (same_path _ _
-    (ap (λ (as : List Arm). comparison_weight names subject as + sum (map (λ (a : Arm). stmt_weight names a.body (d + 1)) others)) p
-    ∙ ap (λ (as : List Arm). comparison_weight names subject arms + sum (map (λ (a : Arm). stmt_weight names a.body (d + 1)) as)) q
+    (ap (λ (zs : List Arm). comparison_weight names subject zs + sum (map (λ (a : Arm). stmt_weight names a.body (d + 1)) others)) p
+    ∙ ap (λ (zs : List Arm). comparison_weight names subject arms + sum (map (λ (a : Arm). stmt_weight names a.body (d + 1)) zs)) q
     ∙ sym (ap (λ (f : ℕ → ℕ). f d)
     (ap (stmt_weight names) rolled ∙ fold-roll-Stmt (ℕ → ℕ) ArmWeight (stmt_weight_step names) (λ arm. record { label = arm.label; body = arm.body }) (o.Case kind subject arms))
     ∙ ap (λ (ls : List Label). case_weight names subject ls (comparison_of names [] subject ls).width + bodies_weight (map (arm_weight names) arms) (d + 1)) (labels_are names arms)

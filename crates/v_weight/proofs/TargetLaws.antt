@@ -1,5 +1,5 @@
 -- What is counted of each kind of target, and a turn of the loop over targets side by side.
-use Rattle.std.proofs.Common.{◌≡◌, ◌<◌, ◌≤◌, ◌+◌, ℕ, List, [], ◌∷◌, map, length, drop, get_or, Bool, true, false, Option, None, Some, refl, sym, ap, ◌∙◌}
+use Rattle.std.proofs.Common.{◌≡◌, ◌<◌, ◌≤◌, ◌+◌, ℕ, List, [], ◌∷◌, map, length, drop, get_or, Bool, true, false, Option, None, Some, refl, sym, ap, ◌∙◌, subst}
 use Rattle.std.specs.Prelude.{◌&&◌, if◌then◌else◌, sum}
 use Rattle.std.specs.List.{list_all}
 use Rattle.std.proofs.lemmas.List.Folds.{list_all-map}
@@ -83,7 +83,7 @@ pub when_part : (names : List Entry) (x : Target) (n : Ident) (r : Range) (c : C
 when_part names x n r c is width size indices sound =
     let rolled = is ∙ sym (v.rolls-Part n r) in
     let part : is_part (entry_of names n.name) (proper_value names r.msb.expr) (proper_value names r.lsb.expr) ≡ true =
-        sym (ap (is_sound_target names) rolled ∙ para-roll-Target Bool (sound_target_step names) (t.Part n r)) ∙ sound in
+    sym (ap (is_sound_target names) rolled ∙ para-roll-Target Bool (sound_target_step names) (t.Part n r)) ∙ sound in
     target_by names x c _ _ (ap (target_of names []) rolled ∙ fold-roll-Target TargetSense (target_step names []) (t.Part n r))
     (ap (target_weight names) rolled ∙ fold-roll-Target TargetWeight (target_weight_step names) (t.Part n r))
     (subst (λ (k : ℕ). Same c.width k)
@@ -113,9 +113,9 @@ when_concat names x brace parts more r is p counted sound =
     let rolled = is ∙ ap (λ (ys : List Target). v.Concat brace ys) (sym p) ∙ sym (v.rolls-Concat brace more) in
     let judged : List JudgedTarget = map (λ (y : Target). (y, is_sound_target names y)) more in
     let all : (targets_sound names more && is_between_1_and_128 (Some (targets_width names (judged_targets judged)))) ≡ true =
-        ap (λ (b : Bool). b && is_between_1_and_128 (Some (targets_width names (judged_targets judged))))
-        (sym (list_all-map (λ (y : JudgedTarget). y.1) (λ (y : Target). (y, is_sound_target names y)) more))
-        ∙ sym (ap (is_sound_target names) rolled ∙ para-roll-Target Bool (sound_target_step names) (t.Concat brace more)) ∙ sound in
+    ap (λ (b : Bool). b && is_between_1_and_128 (Some (targets_width names (judged_targets judged))))
+    (sym (list_all-map (λ (y : JudgedTarget). y.1) (λ (y : Target). (y, is_sound_target names y)) more))
+    ∙ sym (ap (is_sound_target names) rolled ∙ para-roll-Target Bool (sound_target_step names) (t.Concat brace more)) ∙ sound in
     let of_parts : AreTargets names more r = counted (first_of (targets_sound names more) _ all) in
     target_by names x r _ _ (ap (target_of names []) rolled ∙ fold-roll-Target TargetSense (target_step names []) (t.Concat brace more))
     (ap (target_weight names) rolled ∙ fold-roll-Target TargetWeight (target_weight_step names) (t.Concat brace more))
@@ -125,25 +125,25 @@ when_concat names x brace parts more r is p counted sound =
 
 -- What is added up of the targets so far.
 pub record TargetsTo (names : List Entry) (xs : List Target) (i width size indices : ℕ) : Type 0 where
-  pub widths : targets_sound names xs ≡ true → Sums (width_in names) xs i width
-  pub sizes : targets_sound names xs ≡ true → Sums (size_in names) xs i size
-  pub indices : targets_sound names xs ≡ true → Sums (indices_in names) xs i indices
+  pub of_width : targets_sound names xs ≡ true → Sums (width_in names) xs i width
+  pub of_size : targets_sound names xs ≡ true → Sums (size_in names) xs i size
+  pub of_indices : targets_sound names xs ≡ true → Sums (indices_in names) xs i indices
 
 pub targets_begin : (names : List Entry) (xs : List Target) → TargetsTo names xs 0 0 0 0
-targets_begin names xs = record { widths = λ sound. sums_begin (width_in names) xs; sizes = λ sound. sums_begin (size_in names) xs; indices = λ sound. sums_begin (indices_in names) xs }
+targets_begin names xs = record { of_width = λ sound. sums_begin (width_in names) xs; of_size = λ sound. sums_begin (size_in names) xs; of_indices = λ sound. sums_begin (indices_in names) xs }
 
 pub targets_next : (names : List Entry) (xs : List Target) (i : ℕ) (x : Target) (width size indices more_width more_size more_indices : ℕ) (one : CountedTarget) → i < length xs → x ≡ get_or xs i x →
     (is_sound_target names x ≡ true → IsTarget names x one) → Adds width one.width more_width → Adds size one.size more_size → Adds indices one.indices more_indices →
     TargetsTo names xs i width size indices → TargetsTo names xs (i + 1) more_width more_size more_indices
 targets_next names xs i x width size indices more_width more_size more_indices one h is counted widths sizes all t = record {
-  widths = λ sound. sums_next (width_in names) xs i x width one.width more_width h is widths (counted (passes (is_sound_target names) xs i x h is sound)).width (t.widths sound);
-  sizes = λ sound. sums_next (size_in names) xs i x size one.size more_size h is sizes (counted (passes (is_sound_target names) xs i x h is sound)).size (t.sizes sound);
-  indices = λ sound. sums_next (indices_in names) xs i x indices one.indices more_indices h is all (counted (passes (is_sound_target names) xs i x h is sound)).indices (t.indices sound);
+  of_width = λ sound. sums_next (width_in names) xs i x width one.width more_width h is widths (counted (passes (is_sound_target names) xs i x h is sound)).width (t.of_width sound);
+  of_size = λ sound. sums_next (size_in names) xs i x size one.size more_size h is sizes (counted (passes (is_sound_target names) xs i x h is sound)).size (t.of_size sound);
+  of_indices = λ sound. sums_next (indices_in names) xs i x indices one.indices more_indices h is all (counted (passes (is_sound_target names) xs i x h is sound)).indices (t.of_indices sound);
 }
 
 pub targets_end : (names : List Entry) (xs : List Target) (i : ℕ) (r : CountedTarget) → length xs ≤ i → TargetsTo names xs i r.width r.size r.indices → targets_sound names xs ≡ true → AreTargets names xs r
 targets_end names xs i r h t sound = record {
-  width = sums_end (width_in names) xs i r.width h (t.widths sound);
-  size = sums_end (size_in names) xs i r.size h (t.sizes sound);
-  indices = sums_end (indices_in names) xs i r.indices h (t.indices sound);
+  width = sums_end (width_in names) xs i r.width h (t.of_width sound);
+  size = sums_end (size_in names) xs i r.size h (t.of_size sound);
+  indices = sums_end (indices_in names) xs i r.indices h (t.of_indices sound);
 }

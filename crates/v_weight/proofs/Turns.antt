@@ -1,5 +1,5 @@
 -- A turn of the loops over the operands of a chain, over parts side by side and over the items of a case.
-use Rattle.std.proofs.Common.{◌≡◌, ◌<◌, ◌≤◌, ◌+◌, ℕ, List, [], ◌∷◌, ◌++◌, map, length, drop, get_or, Bool, true, false, refl, sym, ap, ◌∙◌}
+use Rattle.std.proofs.Common.{◌≡◌, ◌<◌, ◌≤◌, ◌+◌, ℕ, List, [], ◌∷◌, ◌++◌, map, length, drop, get_or, Bool, true, false, refl, sym, ap, ◌∙◌, subst}
 use Rattle.std.specs.Prelude.{◌&&◌, sum}
 use Rattle.std.specs.List.{list_all}
 use Rattle.std.proofs.lemmas.List.{drop_all}
@@ -43,10 +43,13 @@ pub chain_next : (names : List Entry) (links : List (BinaryOperator × Expr)) (i
 chain_next names links i l begun now y more h is counted operates constant c = record {
   stands = λ sound s p.
       let of_y : IsCounted names l.1 y = counted (passes (λ (link : BinaryOperator × Expr). is_sound names link.1) links i l h is sound) in
-      let before : (t : Weighed) × (Stands now t × (weighed_chain names t (link_weighings names (drop i links)) ≡ weighed_chain names s (link_weighings names links))) = c.stands sound s p in
-      (weighed_by (class_of l.0) l.0 (is_constant names l.1) before.0 (weighed names (weighing names l.1)),
-      (subst (λ (b : Bool). Stands more (weighed_by (class_of l.0) l.0 b before.0 (weighed names (weighing names l.1)))) of_y.constant (operates before.0 _ before.1.0 of_y.stands),
-      sym (ap (λ (ls : List (BinaryOperator × Expr)). weighed_chain names before.0 (link_weighings names ls)) (next_is links i l h is)) ∙ before.1.1));
+      let before : (t : Weighed) × (Stands now t × (weighed_chain names t (link_weighings names (drop i links)) ≡ weighed_chain names s (link_weighings names links))) = c.stands sound s p in (
+        weighed_by (class_of l.0) l.0 (is_constant names l.1) before.0 (weighed names (weighing names l.1)),
+        (
+          subst (λ (b : Bool). Stands more (weighed_by (class_of l.0) l.0 b before.0 (weighed names (weighing names l.1)))) of_y.constant (operates before.0 _ before.1.0 of_y.stands),
+          sym (ap (λ (ls : List (BinaryOperator × Expr)). weighed_chain names before.0 (link_weighings names ls)) (next_is links i l h is)) ∙ before.1.1,
+        ),
+      );
   constant = λ sound.
       let of_y : IsCounted names l.1 y = counted (passes (λ (link : BinaryOperator × Expr). is_sound names link.1) links i l h is sound) in
       ap (λ (b : Bool). b && links_constant names (drop (i + 1) links)) (constant ∙ ap (λ (b : Bool). now.is_constant && b) of_y.constant)
@@ -111,9 +114,10 @@ pub compared_next : (names : List Entry) (items : List Expr) (i : ℕ) (x : Expr
 compared_next names items i x begun now one more h is counted operates c = record {
   stands = λ sound s p.
       let of_x : IsCounted names x one = counted (passes (is_sound names) items i x h is sound) in
-      let before : (t : Weighed) × (Stands now t × (compared_behind names t (drop i items) ≡ compared_behind names s items)) = c.stands sound s p in
-      (weighed_by Shared b.Add (is_constant names x) before.0 (weighed names (weighing names x)),
-      (operates before.0 _ before.1.0 of_x.stands, sym (ap (λ (ys : List Expr). compared_behind names before.0 ys) (next_is items i x h is)) ∙ before.1.1));
+      let before : (t : Weighed) × (Stands now t × (compared_behind names t (drop i items) ≡ compared_behind names s items)) = c.stands sound s p in (
+        weighed_by Shared b.Add (is_constant names x) before.0 (weighed names (weighing names x)),
+        (operates before.0 _ before.1.0 of_x.stands, sym (ap (λ (ys : List Expr). compared_behind names before.0 ys) (next_is items i x h is)) ∙ before.1.1),
+      );
 }
 
 pub compared_ends : (names : List Entry) (items : List Expr) (i : ℕ) (begun now : Counted) → length items ≤ i → ComparedTo names items i begun now →

@@ -1,5 +1,5 @@
 -- What is counted of each kind of expression, where a match has found it and its parts were taken out.
-use Rattle.std.proofs.Common.{◌≡◌, ◌+◌, ◌*◌, ℕ, List, [], ◌∷◌, map, Bool, true, false, Option, None, Some, refl, sym, ap, ◌∙◌, max}
+use Rattle.std.proofs.Common.{◌≡◌, ◌+◌, ◌*◌, ℕ, List, [], ◌∷◌, map, Bool, true, false, Option, None, Some, refl, sym, ap, ◌∙◌, max, subst}
 use Rattle.std.specs.Prelude.{◌&&◌, not, if◌then◌else◌, is_some, sum}
 use Rattle.std.specs.List.{list_all}
 use Rattle.std.proofs.Math.Nat.{add_assoc, add-zero, zero-add}
@@ -100,7 +100,7 @@ when_select names x index i n bracket value m r is p q counted stands constant s
     let rolled = is ∙ sym (e.rolls-Select n bracket index) in
     let inner : is_sound names i ≡ true = ap (is_sound names) p ∙ sym (ap (is_sound names) rolled ∙ para-roll-Expr Bool (sound_step names) (o.Select n bracket index)) ∙ sound in
     let fixed : is_some (within_entry (entry_of names n.name) value) ≡ is_fixed names (entry_of names n.name) index =
-        ap (λ (v : Option ℕ). is_some (within_entry (entry_of names n.name) v)) q ∙ fixed_is names (entry_of names n.name) i inner ∙ ap (is_fixed names (entry_of names n.name)) p in
+    ap (λ (v : Option ℕ). is_some (within_entry (entry_of names n.name) v)) q ∙ fixed_is names (entry_of names n.name) i inner ∙ ap (is_fixed names (entry_of names n.name)) p in
     counted_by names x r _ _ _
     (ap (width_of names) rolled ∙ ap (λ (s : Sense). s.width) (fold-roll-Expr Sense (sense_step names []) (o.Select n bracket index))
     ∙ selected_is (entry_of names n.name).kind (entry_of names n.name) (sense_of names [] index) (open_at [] n.at))
@@ -120,12 +120,12 @@ pub when_part : (names : List Entry) (x m l m' l' : Expr) (n : Ident) (bracket m
 when_part names x m l m' l' n bracket ma la r is p q stands constant sound =
     let rolled = is ∙ sym (e.rolls-Part n bracket ma m la l) in
     let all : ((is_proper_operand names (m, is_sound names m) && is_proper_operand names (l, is_sound names l)) && is_part (entry_of names n.name) (constant_value names m) (constant_value names l)) ≡ true =
-        sym (ap (is_sound names) rolled ∙ para-roll-Expr Bool (sound_step names) (o.Part n bracket ma m la l)) ∙ sound in
+    sym (ap (is_sound names) rolled ∙ para-roll-Expr Bool (sound_step names) (o.Part n bracket ma m la l)) ∙ sound in
     let bounds = first_of (is_proper_operand names (m, is_sound names m) && is_proper_operand names (l, is_sound names l)) _ all in
     let msb : proper_value names m' ≡ constant_value names m =
-        ap (proper_value names) p ∙ proper_is (is_constant names m) (is_sound names m) (constant_value names m) (first_of _ (is_proper_operand names (l, is_sound names l)) bounds) in
+    ap (proper_value names) p ∙ proper_is (is_constant names m) (is_sound names m) (constant_value names m) (first_of _ (is_proper_operand names (l, is_sound names l)) bounds) in
     let lsb : proper_value names l' ≡ constant_value names l =
-        ap (proper_value names) q ∙ proper_is (is_constant names l) (is_sound names l) (constant_value names l) (second_of (is_proper_operand names (m, is_sound names m)) _ bounds) in
+    ap (proper_value names) q ∙ proper_is (is_constant names l) (is_sound names l) (constant_value names l) (second_of (is_proper_operand names (m, is_sound names m)) _ bounds) in
     counted_by names x r _ _ _
     (ap (width_of names) rolled ∙ ap (λ (s : Sense). s.width) (fold-roll-Expr Sense (sense_step names []) (o.Part n bracket ma m la l)))
     (ap (weight_at names) rolled ∙ para-roll-Expr (ℕ → ℕ) (weight_step names) (o.Part n bracket ma m la l))
@@ -202,9 +202,9 @@ pub when_chain : (names : List Entry) (x a c : Expr) (links more : List (BinaryO
 when_chain names x a c links more m r is p q counted chain sound =
     let rolled = is ∙ ap (λ (z : Expr). e.Chain z links) (sym p) ∙ ap (λ (ls : List (BinaryOperator × Expr)). e.Chain c ls) (sym q) ∙ sym (e.rolls-Chain c more) in
     let all : (is_sound names c && links_sound names more) ≡ true =
-        ap (λ (b : Bool). is_sound names c && b)
-        (sym (list_all-map (λ (link : BinaryOperator × Judged). link.1.1) (λ (l : BinaryOperator × Expr). (l.0, (l.1, is_sound names l.1))) more))
-        ∙ sym (ap (is_sound names) rolled ∙ para-roll-Expr Bool (sound_step names) (o.Chain c more)) ∙ sound in
+    ap (λ (b : Bool). is_sound names c && b)
+    (sym (list_all-map (λ (link : BinaryOperator × Judged). link.1.1) (λ (l : BinaryOperator × Expr). (l.0, (l.1, is_sound names l.1))) more))
+    ∙ sym (ap (is_sound names) rolled ∙ para-roll-Expr Bool (sound_step names) (o.Chain c more)) ∙ sound in
     let of_c : IsCounted names c m = counted (first_of (is_sound names c) (links_sound names more) all) in
     let of_links : IsChain names m more r = chain (second_of (is_sound names c) (links_sound names more) all) in
     counted_by names x r _ _ _
@@ -236,12 +236,12 @@ pub when_concat : (names : List Entry) (x : Expr) (brace : ℕ) (parts more : Li
 when_concat names x brace parts more r is p counted sound =
     let rolled = is ∙ ap (λ (ys : List Expr). e.Concat brace ys) (sym p) ∙ sym (e.rolls-Concat brace more) in
     let all : (all_sound names more && can_join names 1 (map (λ (y : Expr). (y, is_sound names y)) more)) ≡ true =
-        ap (λ (b : Bool). b && can_join names 1 (map (λ (y : Expr). (y, is_sound names y)) more)) (sym (parts_sound names more))
-        ∙ sym (ap (is_sound names) rolled ∙ para-roll-Expr Bool (sound_step names) (o.Concat brace more)) ∙ sound in
+    ap (λ (b : Bool). b && can_join names 1 (map (λ (y : Expr). (y, is_sound names y)) more)) (sym (parts_sound names more))
+    ∙ sym (ap (is_sound names) rolled ∙ para-roll-Expr Bool (sound_step names) (o.Concat brace more)) ∙ sound in
     let of_parts : AreParts names more r = counted (first_of (all_sound names more) _ all) in
     counted_by names x r _ _ _
     (ap (width_of names) rolled ∙ ap (λ (s : Sense). s.width) (fold-roll-Expr Sense (sense_step names []) (o.Concat brace more)) ∙ all_width_is names more)
-    (ap (weight_at names) rolled ∙ para-roll-Expr (ℕ → ℕ) (weight_step names) (o.Concat brace more) ∙ ap (λ (n w : ℕ). n) (parts_weight_is names more))
+    (ap (weight_at names) rolled ∙ para-roll-Expr (ℕ → ℕ) (weight_step names) (o.Concat brace more) ∙ ap {B = ℕ → ℕ} (λ (n : ℕ) (w : ℕ). n) (parts_weight_is names more))
     (ap (is_constant names) rolled ∙ fold-roll-Expr Bool (constant_step names) (o.Concat brace more))
     of_parts.stands of_parts.constant
 
@@ -252,9 +252,9 @@ when_replicate names x a c brace at inner parts more k m r is p q count counted 
     let rolled = is ∙ ap (λ (z : Expr). e.Replicate brace at z inner parts) (sym p) ∙ ap (λ (ys : List Expr). e.Replicate brace at c inner ys) (sym q) ∙ sym (e.rolls-Replicate brace at c inner more) in
     let judged : List Judged = map (λ (y : Expr). (y, is_sound names y)) more in
     let all : (((is_proper_operand names (c, is_sound names c) && is_between_1_and_128 (constant_value names c)) && all_sound names more) && can_join names (or_zero (constant_value names c)) judged) ≡ true =
-        ap (λ (b : Bool). ((is_proper_operand names (c, is_sound names c) && is_between_1_and_128 (constant_value names c)) && b) && can_join names (or_zero (constant_value names c)) judged)
-        (sym (parts_sound names more))
-        ∙ sym (ap (is_sound names) rolled ∙ para-roll-Expr Bool (sound_step names) (o.Replicate brace at c inner more)) ∙ sound in
+    ap (λ (b : Bool). ((is_proper_operand names (c, is_sound names c) && is_between_1_and_128 (constant_value names c)) && b) && can_join names (or_zero (constant_value names c)) judged)
+    (sym (parts_sound names more))
+    ∙ sym (ap (is_sound names) rolled ∙ para-roll-Expr Bool (sound_step names) (o.Replicate brace at c inner more)) ∙ sound in
     let before : ((is_proper_operand names (c, is_sound names c) && is_between_1_and_128 (constant_value names c)) && all_sound names more) ≡ true = first_of _ _ all in
     let counts : (is_proper_operand names (c, is_sound names c) && is_between_1_and_128 (constant_value names c)) ≡ true = first_of _ (all_sound names more) before in
     let proper : (is_constant names c && is_sound names c) ≡ true = first_of (is_constant names c && is_sound names c) (is_between_1_and_128 (constant_value names c)) counts in
@@ -263,7 +263,7 @@ when_replicate names x a c brace at inner parts more k m r is p q count counted 
     counted_by names x r _ _ _
     (ap (width_of names) rolled ∙ ap (λ (s : Sense). s.width) (fold-roll-Expr Sense (sense_step names []) (o.Replicate brace at c inner more))
     ∙ ap (λ n. or_zero (constant_value names c) * n) (all_width_is names more))
-    (ap (weight_at names) rolled ∙ para-roll-Expr (ℕ → ℕ) (weight_step names) (o.Replicate brace at c inner more) ∙ ap (λ (n w : ℕ). n) (parts_weight_is names more))
+    (ap (weight_at names) rolled ∙ para-roll-Expr (ℕ → ℕ) (weight_step names) (o.Replicate brace at c inner more) ∙ ap {B = ℕ → ℕ} (λ (n : ℕ) (w : ℕ). n) (parts_weight_is names more))
     (ap (is_constant names) rolled ∙ fold-roll-Expr Bool (constant_step names) (o.Replicate brace at c inner more)
     ∙ ap (λ (b : Bool). b && all_constant names more) (first_of (is_constant names c) (is_sound names c) proper))
     (subst (λ (n : ℕ). Stands r (as_many n (side_by_side names more))) number (stands _ of_parts.stands)) (constant ∙ of_parts.constant)

@@ -1,4 +1,4 @@
-ghost use Rattle.std.specs.Prelude.{◌≡◌, ◌+◌, ◌&&◌, not, false, if◌then◌else◌, is_some, Bool};
+ghost use Rattle.std.specs.Prelude.{◌≡◌, ℕ, ◌&&◌, not, false, if◌then◌else◌, is_some};
 ghost use Rattle.v_meaning.specs.declared.names.Entry.{Entry};
 ghost use Rattle.v_meaning.specs.Literals.{literal_of, digit_in, is_x, is_z, is_wrong_number};
 ghost use Rattle.v_meaning.specs.Names.{entry_of, within_entry};
@@ -117,12 +117,7 @@ fn choice_weight(is_fixed: bool, size: u64) -> u64
 }
 
 // A bit of a vector or a word of a memory, at an index of this value if it is proper.
-pub(crate) fn selected(
-    names: &Names,
-    ident: &Ident,
-    value: Option<u128>,
-    index: Counted,
-) -> Counted
+pub(crate) fn selected(names: &Names, ident: &Ident, value: Option<u128>, index: Counted) -> Counted
     ensures stands { (s : Weighed) → Stands index s → Stands result (weighed_select (entry_of names.now ident.now.name) (is_some (within_entry (entry_of names.now ident.now.name) value)) s) }
     ensures constant { result.is_constant ≡ false }
 {

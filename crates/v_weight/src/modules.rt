@@ -19,6 +19,7 @@ use v_syntax::{Declared, Expr, Ident, Item, Module, Setting};
 // A part of a module that stands in a list of such parts.
 trait Weighs {
     ghost weight_in: { List Entry → Self → ℕ };
+
     ghost is_sound_in: { List Entry → Self → Bool };
 
     // Its weight.
@@ -39,12 +40,7 @@ fn weigh_each<T: Weighs>(alloc: Global, names: &Names, parts: &[T]) -> Result<u6
 }
 
 // A net that is assigned: its width, and the expression at the greater of both widths (IEEE Std 1364-2005, 6.1).
-fn weigh_net(
-    alloc: Global,
-    names: &Names,
-    ident: &Ident,
-    x: &Expr,
-) -> Result<u64, OutOfMemory>
+fn weigh_net(alloc: Global, names: &Names, ident: &Ident, x: &Expr) -> Result<u64, OutOfMemory>
     ensures { IfOk result (λ w. is_sound names.now x.now ≡ true → Same w (net_weight names.now ident.now x.now)) }
 {
     let width = width(names, ident);
@@ -59,6 +55,7 @@ impl Weighs for Declared {
     ghost use Rattle.v_typing.specs.Sound.{is_sound_value};
 
     ghost weight_in = { λ names d. wire_weight names d.name d.value };
+
     ghost is_sound_in = { λ names d. is_sound_value names d.value };
 
     fn weigh(&self, alloc: Global, names: &Names) -> Result<u64, OutOfMemory> {
@@ -78,6 +75,7 @@ impl Weighs for Setting {
     ghost use Rattle.v_meaning.specs.Weights.{net_weight};
 
     ghost weight_in = { λ names s. net_weight names s.name s.value.expr };
+
     ghost is_sound_in = { λ names s. is_sound names s.value.expr };
 
     fn weigh(&self, alloc: Global, names: &Names) -> Result<u64, OutOfMemory> {
@@ -90,6 +88,7 @@ impl Weighs for Item {
     ghost use Rattle.v_typing.specs.Sound.{is_sound_item};
 
     ghost weight_in = { item_weight };
+
     ghost is_sound_in = { is_sound_item };
 
     fn weigh(&self, alloc: Global, names: &Names) -> Result<u64, OutOfMemory> {

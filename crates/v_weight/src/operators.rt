@@ -1,4 +1,4 @@
-ghost use Rattle.std.specs.Prelude.{◌≡◌, ℕ, ◌*◌, ◌&&◌, if◌then◌else◌};
+ghost use Rattle.std.specs.Prelude.{◌≡◌, ℕ, ◌*◌, ◌&&◌, true, false, if◌then◌else◌};
 ghost use Rattle.v_meaning.specs.Senses.{Shared, Compared, Shifted, Logical, class_of, is_through};
 ghost use Rattle.v_meaning.specs.Weights.{Weighed, shared_weight, own_weight};
 ghost use Rattle.v_weight.specs.Saturated.{Same};

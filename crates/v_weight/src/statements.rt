@@ -156,12 +156,7 @@ pub(crate) fn weigh_statement(
 
 // The statements of a block.
 #[cycle(statements)]
-fn weigh_block(
-    alloc: Global,
-    names: &Names,
-    body: &[Stmt],
-    depth: u64,
-) -> Result<u64, OutOfMemory>
+fn weigh_block(alloc: Global, names: &Names, body: &[Stmt], depth: u64) -> Result<u64, OutOfMemory>
     ensures { IfOk result (λ w. block_sound names.now body.now ≡ true → (d : ℕ) → Same depth d → Same w (sum (map (λ s. stmt_weight names.now s d) body.now))) }
 {
     let mut all = 0u64;
@@ -174,12 +169,7 @@ fn weigh_block(
 
 // The bodies of the arms of a case.
 #[cycle(statements)]
-fn weigh_arms(
-    alloc: Global,
-    names: &Names,
-    arms: &[Arm],
-    depth: u64,
-) -> Result<u64, OutOfMemory>
+fn weigh_arms(alloc: Global, names: &Names, arms: &[Arm], depth: u64) -> Result<u64, OutOfMemory>
     ensures { IfOk result (λ w. arms_sound names.now arms.now ≡ true → (d : ℕ) → Same depth d → Same w (sum (map (λ (arm : Arm). stmt_weight names.now arm.body d) arms.now))) }
 {
     let mut all = 0u64;

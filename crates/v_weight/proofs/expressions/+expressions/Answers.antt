@@ -17,7 +17,7 @@ weigh-returns-in_ok-weighed-in-Select t c =
 
 pub weigh-returns-in_ok-width-in-Part : goal.weigh-returns-in_ok-width-in-Part
 weigh-returns-in_ok-width-in-Part t c =
-    when_part c.args.names.now c.args.x.now _ _ _ _ _ _ _ _ _ c.in-Part.is c.get-in-Part.ensures c.get-in-Part-2.ensures
+    when_part c.args.names.now c.args.x.now _ _ _ _ _ _ _ _ _ c.in-Part.is c.get.ensures c.get-in-Part.ensures
     (c.itself.ensures.stands _ _ c.in_ok-width-in-Part.ensures (same_refl 0)) c.itself.ensures.constant
 
 pub weigh-returns-in_ok-x-in-Unary : goal.weigh-returns-in_ok-x-in-Unary

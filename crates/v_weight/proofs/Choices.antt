@@ -1,5 +1,5 @@
 -- What operators make of what is counted of their operands, where a test or a match has found which they are.
-use Rattle.std.proofs.Common.{◌≡◌, ◌+◌, ◌*◌, ℕ, Bool, sym, subst}
+use Rattle.std.proofs.Common.{◌≡◌, ◌*◌, ℕ, Bool, subst}
 use Rattle.std.specs.Prelude.{if◌then◌else◌}
 use Rattle.v_syntax.specs.declared.expr.BinaryOperator.{BinaryOperator}
 use Rattle.v_meaning.specs.Senses.{Class}

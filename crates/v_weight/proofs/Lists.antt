@@ -1,12 +1,12 @@
 -- The sums of loops, and what each element of a list passes that all pass.
-use Rattle.std.proofs.Common.{◌≡◌, ◌<◌, ◌≤◌, ◌+◌, ◌*◌, ℕ, zero, suc, List, [], ◌∷◌, map, length, drop, get_or, drop-cons, add-one, Bool, true, false, refl, sym, ap, ◌∙◌}
+use Rattle.std.proofs.Common.{◌≡◌, ◌<◌, ◌≤◌, ◌+◌, ℕ, zero, suc, List, [], ◌∷◌, map, length, drop, get_or, drop-cons, add-one, Bool, true, false, refl, sym, ap, ◌∙◌}
 use Rattle.std.specs.Prelude.{sum, ◌&&◌, not}
 use Rattle.std.specs.List.{list_all}
 use Rattle.std.proofs.Math.Nat.{add_assoc, add-zero, zero-add}
 use Rattle.std.proofs.lemmas.List.{drop_all}
 use Rattle.std.proofs.lemmas.List.Sums.{sum-map, sum_by-cons}
 use Rattle.v_weight.specs.Saturated.{Same}
-use Rattle.v_weight.proofs.Saturating.{same_refl, same_path, same_sym, same_trans, same_sum}
+use Rattle.v_weight.proofs.Saturating.{same_refl, same_path, same_trans, same_sum}
 
 pub first_of : (a b : Bool) → (a && b) ≡ true → a ≡ true
 first_of true b h = refl
@@ -41,9 +41,6 @@ sum_cons f x xs = sum-map f (x ∷ xs) ∙ sum_by-cons f x xs ∙ ap (λ n. f x 
 -- What is added up and the elements from this one on make what all make.
 pub record Sums {X : Type 0} (f : X → ℕ) (xs : List X) (i total : ℕ) : Type 0 where
   pub same : Same (total + sum (map f (drop i xs))) (sum (map f xs))
-
-pub sums_begin : {X : Type 0} (f : X → ℕ) (xs : List X) → Sums f xs 0 0
-sums_begin f xs = record { same = same_path _ _ (zero-add (sum (map f xs))) }
 
 -- a number is added
 abbrev pub Adds : ℕ → ℕ → ℕ → Type 0

@@ -1,5 +1,5 @@
 -- What each item of a module weighs, and the module.
-use Rattle.std.proofs.Common.{◌≡◌, ◌≤◌, ◌+◌, ◌-◌, ℕ, List, [], ◌∷◌, map, Bool, true, Option, None, Some, refl, sym, ap, ◌∙◌, arith, min, subst}
+use Rattle.std.proofs.Common.{◌≡◌, ◌≤◌, ◌-◌, ℕ, List, map, Bool, true, Option, None, Some, sym, ap, ◌∙◌, arith, min, subst}
 use Rattle.std.specs.Prelude.{◌^◌, sum}
 use Rattle.std.specs.List.{list_all}
 use Rattle.v_syntax.specs.declared.token.Ident.{Ident}

@@ -1,9 +1,9 @@
 -- What each kind of statement weighs, where a match has found it and its parts were taken out.
-use Rattle.std.proofs.Common.{◌≡◌, ◌<◌, ◌≤◌, ◌+◌, ◌*◌, ℕ, List, [], ◌∷◌, ◌++◌, map, length, drop, get_or, arith, Bool, true, false, refl, sym, ap, ◌∙◌, max, subst}
+use Rattle.std.proofs.Common.{◌≡◌, ◌<◌, ◌≤◌, ◌+◌, ◌*◌, ℕ, List, [], ◌∷◌, ◌++◌, map, length, drop, get_or, arith, Bool, true, refl, sym, ap, ◌∙◌, subst}
 use Rattle.std.specs.Prelude.{◌&&◌, sum}
 use Rattle.std.specs.List.{list_all}
 use Rattle.std.proofs.Math.Numerals.{one-add}
-use Rattle.std.proofs.lemmas.List.{drop_all, map-append, append-nil}
+use Rattle.std.proofs.lemmas.List.{drop_all}
 use Rattle.std.proofs.lemmas.List.Folds.{list_all-map}
 use Rattle.v_syntax.specs.declared.expr.Expr.{Expr}
 use Rattle.v_syntax.specs.declared.expr.BinaryOperator.TheVariants as b
@@ -17,22 +17,22 @@ use Rattle.v_syntax.specs.declared.stmt.Stmt.{Stmt}
 use Rattle.v_syntax.specs.declared.stmt.Stmt.TheVariants as s
 use Rattle.v_syntax.specs.declared.stmt.Stmt.TheOpen.{Stmt-F, Arm-F}
 use Rattle.v_syntax.specs.declared.stmt.Stmt.TheOpen as o
-use Rattle.v_syntax.specs.declared.stmt.Stmt.TheFolds.{fold-Stmt, fold-Arm, fold-roll-Stmt, fold-roll-Arm}
-use Rattle.v_meaning.specs.Senses.{Sense, Shared}
+use Rattle.v_syntax.specs.declared.stmt.Stmt.TheFolds.{fold-Arm, fold-roll-Stmt, fold-roll-Arm}
+use Rattle.v_meaning.specs.Senses.{Shared}
 use Rattle.v_meaning.specs.declared.names.Entry.{Entry}
 use Rattle.v_meaning.specs.Expressions.{sense_of, is_constant}
-use Rattle.v_meaning.specs.Statements.{label_items, all_items, greatest_width, comparison_of}
+use Rattle.v_meaning.specs.Statements.{label_items, greatest_width, comparison_of}
 use Rattle.v_meaning.specs.Targets.{target_of}
-use Rattle.v_meaning.specs.Proper.{width_of, is_sound}
+use Rattle.v_meaning.specs.Proper.{is_sound}
 use Rattle.v_meaning.specs.Weights.{Weighed, weighed, weighed_by, own_weight, weight_at, condition_weight, target_weight, ArmWeight, labels_in, bodies_weight, case_weight, assign_weight, block_weight, stmt_weight_step, stmt_weight}
 use Rattle.v_typing.specs.Sound.{all_sound, sound_stmt_step, sound_arm_step, is_sound_stmt, is_sound_target}
 use Rattle.v_weight.specs.declared.counting.Counted.{Counted}
 use Rattle.v_weight.specs.Saturated.{Same}
-use Rattle.v_weight.specs.Counts.{Stands, weighing, IsCounted}
+use Rattle.v_weight.specs.Counts.{Stands, weighing}
 use Rattle.v_weight.specs.Statements.{compared_behind, Compares, arm_labels, arms_items, comparison_weight, block_sound, is_sound_arm, arms_sound}
-use Rattle.v_weight.proofs.Saturating.{same_refl, same_path, same_trans}
+use Rattle.v_weight.proofs.Saturating.{same_path, same_trans}
 use Rattle.v_weight.proofs.Turns.{ComparedTo}
-use Rattle.v_weight.proofs.Lists.{first_of, second_of, next_is, passes, sum_cons, Sums, Adds, sums_begin, sums_next, sums_end}
+use Rattle.v_weight.proofs.Lists.{first_of, second_of, next_is, passes, sum_cons, Sums, Adds, sums_next, sums_end}
 
 -- ---- what a case compares
 
@@ -64,19 +64,20 @@ comparison_is names subject arms =
 pub record LabelsTo (names : List Entry) (arms : List Arm) (i : ℕ) (begun now : Counted) : Type 0 where
   pub stands : arms_sound names arms ≡ true → (s : Weighed) → Stands begun s → (t : Weighed) × (Stands now t × (compared_behind names t (arms_items (drop i arms)) ≡ compared_behind names s (arms_items arms)))
 
-pub labels_begin : (names : List Entry) (arms : List Arm) (begun : Counted) → LabelsTo names arms 0 begun begun
-labels_begin names arms begun = record { stands = λ sound s p. (s, (p, refl)) }
-
 pub labels_next : (names : List Entry) (arms : List Arm) (i : ℕ) (a : Arm) (begun now more : Counted) → i < length arms → a ≡ get_or arms i a →
     Compares names now (label_items a.label) more →
     LabelsTo names arms i begun now → LabelsTo names arms (i + 1) begun more
 labels_next names arms i a begun now more h is law c = record {
   stands = λ sound s p.
       let inner : all_sound names (label_items a.label) ≡ true = first_of (all_sound names (label_items a.label)) (is_sound_stmt names a.body) (passes (is_sound_arm names) arms i a h is sound) in
-      let before : (t : Weighed) × (Stands now t × (compared_behind names t (arms_items (drop i arms)) ≡ compared_behind names s (arms_items arms))) = c.stands sound s p in
-      (compared_behind names before.0 (label_items a.label), (law inner before.0 before.1.0,
-      sym (compared_more names before.0 (label_items a.label) (arms_items (drop (i + 1) arms)))
-      ∙ sym (ap (λ (zs : List Arm). compared_behind names before.0 (arms_items zs)) (next_is arms i a h is)) ∙ before.1.1));
+      let before : (t : Weighed) × (Stands now t × (compared_behind names t (arms_items (drop i arms)) ≡ compared_behind names s (arms_items arms))) = c.stands sound s p in (
+        compared_behind names before.0 (label_items a.label),
+        (
+          law inner before.0 before.1.0,
+          sym (compared_more names before.0 (label_items a.label) (arms_items (drop (i + 1) arms)))
+              ∙ sym (ap (λ (zs : List Arm). compared_behind names before.0 (arms_items zs)) (next_is arms i a h is)) ∙ before.1.1,
+        ),
+      );
 }
 
 pub labels_end : (names : List Entry) (arms : List Arm) (i : ℕ) (begun now : Counted) → length arms ≤ i → LabelsTo names arms i begun now →
@@ -113,8 +114,8 @@ pub when_block : (names : List Entry) (x : Stmt) (body more : List Stmt) (depth 
 when_block names x body more depth r is p weighs sound d deep =
     let rolled = is ∙ ap (λ (ys : List Stmt). s.Block ys) (sym p) ∙ sym (s.rolls-Block more) in
     let inner : block_sound names more ≡ true =
-        sym (list_all-map (λ (one : Bool). one) (is_sound_stmt names) more)
-        ∙ sym (ap (is_sound_stmt names) rolled ∙ fold-roll-Stmt Bool Bool (sound_stmt_step names) (sound_arm_step names) (o.Block more)) ∙ sound in
+    sym (list_all-map (λ (one : Bool). one) (is_sound_stmt names) more)
+    ∙ sym (ap (is_sound_stmt names) rolled ∙ fold-roll-Stmt Bool Bool (sound_stmt_step names) (sound_arm_step names) (o.Block more)) ∙ sound in
     same_trans _ _ _ (weighs inner d deep)
     (same_path _ _ (sym (ap (λ (f : ℕ → ℕ). f d)
     (ap (stmt_weight names) rolled ∙ fold-roll-Stmt (ℕ → ℕ) ArmWeight (stmt_weight_step names) (λ arm. record { label = arm.label; body = arm.body }) (o.Block more))
@@ -126,7 +127,7 @@ pub when_if : (names : List Entry) (x a z : Stmt) (c : Expr) (depth inner k m r 
 when_if names x a z c depth inner k m r is p condition deeper weighs adds sound d deep =
     let rolled = is ∙ ap (λ (y : Stmt). s.If c y) (sym p) ∙ sym (s.rolls-If c z) in
     let all : (is_sound names c && is_sound_stmt names z) ≡ true =
-        sym (ap (is_sound_stmt names) rolled ∙ fold-roll-Stmt Bool Bool (sound_stmt_step names) (sound_arm_step names) (o.If c z)) ∙ sound in
+    sym (ap (is_sound_stmt names) rolled ∙ fold-roll-Stmt Bool Bool (sound_stmt_step names) (sound_arm_step names) (o.If c z)) ∙ sound in
     same_trans _ _ _
     (adds _ _ (condition (first_of (is_sound names c) (is_sound_stmt names z) all)) (weighs (second_of (is_sound names c) (is_sound_stmt names z) all) (d + 1) (deeper d deep)))
     (same_path _ _ (sym (ap (λ (f : ℕ → ℕ). f d)
@@ -139,7 +140,7 @@ pub when_if_else : (names : List Entry) (x a b y z : Stmt) (c : Expr) (depth inn
 when_if_else names x a b y z c depth inner k m n before r is p q condition deeper one other adds more sound d deep =
     let rolled = is ∙ ap (λ (w : Stmt). s.IfElse c w b) (sym p) ∙ ap (λ (w : Stmt). s.IfElse c y w) (sym q) ∙ sym (s.rolls-IfElse c y z) in
     let all : (is_sound names c && (is_sound_stmt names y && is_sound_stmt names z)) ≡ true =
-        sym (ap (is_sound_stmt names) rolled ∙ fold-roll-Stmt Bool Bool (sound_stmt_step names) (sound_arm_step names) (o.IfElse c y z)) ∙ sound in
+    sym (ap (is_sound_stmt names) rolled ∙ fold-roll-Stmt Bool Bool (sound_stmt_step names) (sound_arm_step names) (o.IfElse c y z)) ∙ sound in
     let both : (is_sound_stmt names y && is_sound_stmt names z) ≡ true = second_of (is_sound names c) (is_sound_stmt names y && is_sound_stmt names z) all in
     same_trans _ _ _
     (more _ _ (adds _ _ (condition (first_of (is_sound names c) (is_sound_stmt names y && is_sound_stmt names z) all)) (one (first_of (is_sound_stmt names y) (is_sound_stmt names z) both) (d + 1) (deeper d deep)))
@@ -168,8 +169,8 @@ pub when_case : (names : List Entry) (x : Stmt) (kind : CaseKind) (subject : Exp
 when_case names x kind subject arms more others depth inner k m r is p q compares deeper bodies adds sound d deep =
     let rolled = is ∙ sym (s.rolls-Case kind subject arms) in
     let all : (is_sound names subject && arms_sound names arms) ≡ true =
-        ap (λ (b : Bool). is_sound names subject && b) (sym (arms_sound_are names arms))
-        ∙ sym (ap (is_sound_stmt names) rolled ∙ fold-roll-Stmt Bool Bool (sound_stmt_step names) (sound_arm_step names) (o.Case kind subject arms)) ∙ sound in
+    ap (λ (b : Bool). is_sound names subject && b) (sym (arms_sound_are names arms))
+    ∙ sym (ap (is_sound_stmt names) rolled ∙ fold-roll-Stmt Bool Bool (sound_stmt_step names) (sound_arm_step names) (o.Case kind subject arms)) ∙ sound in
     let arms_right : arms_sound names arms ≡ true = second_of (is_sound names subject) (arms_sound names arms) all in
     same_trans _ _ _
     (adds _ _ (compares (first_of (is_sound names subject) (arms_sound names arms) all) (ap (arms_sound names) p ∙ arms_right))
@@ -189,7 +190,7 @@ pub when_assign : (names : List Entry) (x : Stmt) (target other : Target) (kind 
 when_assign names x target other kind value depth r is p weighs sound d deep =
     let rolled = is ∙ ap (λ (w : Target). s.Assign w kind value) (sym p) ∙ sym (s.rolls-Assign other kind value) in
     let all : (is_sound_target names other && is_sound names value) ≡ true =
-        sym (ap (is_sound_stmt names) rolled ∙ fold-roll-Stmt Bool Bool (sound_stmt_step names) (sound_arm_step names) (o.Assign other kind value)) ∙ sound in
+    sym (ap (is_sound_stmt names) rolled ∙ fold-roll-Stmt Bool Bool (sound_stmt_step names) (sound_arm_step names) (o.Assign other kind value)) ∙ sound in
     same_trans _ _ _
     (weighs (first_of (is_sound_target names other) (is_sound names value) all) (second_of (is_sound_target names other) (is_sound names value) all) d deep)
     (same_path _ _ (sym (ap (λ (f : ℕ → ℕ). f d)
@@ -200,9 +201,6 @@ when_assign names x target other kind value depth r is p weighs sound d deep =
 -- What is added up so far, however deep it stands.
 pub record SumsIn {X : Type 0} (f : X → ℕ → ℕ) (test : X → Bool) (xs : List X) (i depth total : ℕ) : Type 0 where
   pub same : list_all test xs ≡ true → (d : ℕ) → Same depth d → Sums (λ (x : X). f x d) xs i total
-
-pub begin_in : {X : Type 0} (f : X → ℕ → ℕ) (test : X → Bool) (xs : List X) (depth : ℕ) → SumsIn f test xs 0 depth 0
-begin_in {X = X} f test xs depth = record { same = λ sound d deep. sums_begin (λ (x : X). f x d) xs }
 
 pub next_in : {X : Type 0} (f : X → ℕ → ℕ) (test : X → Bool) (xs : List X) (i : ℕ) (x : X) (depth total one more : ℕ) → i < length xs → x ≡ get_or xs i x → Adds total one more →
     (test x ≡ true → (d : ℕ) → Same depth d → Same one (f x d)) → SumsIn f test xs i depth total → SumsIn f test xs (i + 1) depth more
@@ -215,9 +213,6 @@ pub end_in : {X : Type 0} (f : X → ℕ → ℕ) (test : X → Bool) (xs : List
 end_in {X = X} f test xs i depth total h s sound d deep = sums_end (λ (x : X). f x d) xs i total h (s.same sound d deep)
 
 -- ---- labels
-
-pub compared_begins : (names : List Entry) (items : List Expr) (begun : Counted) → ComparedTo names items 0 begun begun
-compared_begins names items begun = record { stands = λ sound s p. (s, (p, refl)) }
 
 pub of_items : (names : List Entry) (label : Label) (xs ys : List Expr) (before r : Counted) → label ≡ l.Items xs → ys ≡ xs → Compares names before ys r → Compares names before (label_items label) r
 of_items names label xs ys before r is p h = subst (λ (zs : List Expr). Compares names before zs r) (p ∙ sym (ap label_items is)) h

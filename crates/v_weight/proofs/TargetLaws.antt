@@ -1,7 +1,6 @@
 -- What is counted of each kind of target, and a turn of the loop over targets side by side.
-use Rattle.std.proofs.Common.{◌≡◌, ◌<◌, ◌≤◌, ◌+◌, ℕ, List, [], ◌∷◌, map, length, drop, get_or, Bool, true, false, Option, None, Some, refl, sym, ap, ◌∙◌, subst}
+use Rattle.std.proofs.Common.{◌≡◌, ◌<◌, ◌≤◌, ◌+◌, ℕ, List, [], ◌∷◌, map, length, get_or, Bool, true, false, Option, None, Some, refl, sym, ap, ◌∙◌, subst}
 use Rattle.std.specs.Prelude.{◌&&◌, if◌then◌else◌, sum}
-use Rattle.std.specs.List.{list_all}
 use Rattle.std.proofs.lemmas.List.Folds.{list_all-map}
 use Rattle.v_syntax.specs.declared.token.Ident.{Ident}
 use Rattle.v_syntax.specs.declared.expr.Expr.{Expr}
@@ -17,7 +16,7 @@ use Rattle.v_meaning.specs.declared.names.Kind.TheVariants.{Parameter, Clock, In
 use Rattle.v_meaning.specs.declared.names.Entry.{Entry}
 use Rattle.v_meaning.specs.Names.{entry_of, or_zero, span}
 use Rattle.v_meaning.specs.Targets.{TargetSense, target_step, target_of, selected_target, parts_width}
-use Rattle.v_meaning.specs.Expressions.{sense_of, is_constant}
+use Rattle.v_meaning.specs.Expressions.{sense_of}
 use Rattle.v_meaning.specs.Declarations.{constant_value}
 use Rattle.v_meaning.specs.Sites.{select_width}
 use Rattle.v_meaning.specs.Proper.{is_sound, is_proper, is_part, is_between_1_and_128, proper_value}
@@ -29,8 +28,7 @@ use Rattle.v_weight.specs.declared.targets.CountedTarget.{CountedTarget}
 use Rattle.v_weight.specs.Saturated.{Same}
 use Rattle.v_weight.specs.Counts.{Stands, weighing, IsCounted}
 use Rattle.v_weight.specs.Targets.{width_in, size_in, indices_in, IsTarget, AreTargets}
-use Rattle.v_weight.proofs.Saturating.{same_refl}
-use Rattle.v_weight.proofs.Lists.{first_of, sum_cons, passes, Sums, Adds, sums_begin, sums_next, sums_end}
+use Rattle.v_weight.proofs.Lists.{first_of, sum_cons, passes, Sums, Adds, sums_next, sums_end}
 
 target_by : (names : List Entry) (x : Target) (r : CountedTarget) (s : TargetSense) (w : TargetWeight) → target_of names [] x ≡ s → target_weight names x ≡ w →
     Same r.width s.width → Same r.size w.size → Same r.indices w.indices → IsTarget names x r
@@ -128,9 +126,6 @@ pub record TargetsTo (names : List Entry) (xs : List Target) (i width size indic
   pub of_width : targets_sound names xs ≡ true → Sums (width_in names) xs i width
   pub of_size : targets_sound names xs ≡ true → Sums (size_in names) xs i size
   pub of_indices : targets_sound names xs ≡ true → Sums (indices_in names) xs i indices
-
-pub targets_begin : (names : List Entry) (xs : List Target) → TargetsTo names xs 0 0 0 0
-targets_begin names xs = record { of_width = λ sound. sums_begin (width_in names) xs; of_size = λ sound. sums_begin (size_in names) xs; of_indices = λ sound. sums_begin (indices_in names) xs }
 
 pub targets_next : (names : List Entry) (xs : List Target) (i : ℕ) (x : Target) (width size indices more_width more_size more_indices : ℕ) (one : CountedTarget) → i < length xs → x ≡ get_or xs i x →
     (is_sound_target names x ≡ true → IsTarget names x one) → Adds width one.width more_width → Adds size one.size more_size → Adds indices one.indices more_indices →

@@ -1,7 +1,6 @@
 -- A turn of the loops over the operands of a chain, over parts side by side and over the items of a case.
-use Rattle.std.proofs.Common.{◌≡◌, ◌<◌, ◌≤◌, ◌+◌, ℕ, List, [], ◌∷◌, ◌++◌, map, length, drop, get_or, Bool, true, false, refl, sym, ap, ◌∙◌, subst}
-use Rattle.std.specs.Prelude.{◌&&◌, sum}
-use Rattle.std.specs.List.{list_all}
+use Rattle.std.proofs.Common.{◌≡◌, ◌<◌, ◌≤◌, ◌+◌, ℕ, List, length, drop, get_or, Bool, true, false, refl, sym, ap, ◌∙◌, subst}
+use Rattle.std.specs.Prelude.{◌&&◌}
 use Rattle.std.proofs.lemmas.List.{drop_all}
 use Rattle.v_syntax.specs.declared.expr.Expr.{Expr}
 use Rattle.v_syntax.specs.declared.expr.BinaryOperator.{BinaryOperator}
@@ -16,7 +15,7 @@ use Rattle.v_weight.specs.declared.counting.Counted.{Counted}
 use Rattle.v_weight.specs.Saturated.{Same}
 use Rattle.v_weight.specs.Counts.{Stands, Operates, weighing, link_weighings, links_constant, all_constant, IsCounted, IsChain, AreParts}
 use Rattle.v_weight.specs.Statements.{compared_behind}
-use Rattle.v_weight.proofs.Lists.{next_is, passes, Sums, Adds, sums_begin, sums_next, sums_end}
+use Rattle.v_weight.proofs.Lists.{next_is, passes, Sums, Adds, sums_next, sums_end}
 
 and_assoc : (c d k : Bool) → ((c && d) && k) ≡ (c && (d && k))
 and_assoc true d k = refl
@@ -33,9 +32,6 @@ pub record ChainTo (names : List Entry) (links : List (BinaryOperator × Expr)) 
   pub stands : links_sound names links ≡ true → (s : Weighed) → Stands begun s →
       (t : Weighed) × (Stands now t × (weighed_chain names t (link_weighings names (drop i links)) ≡ weighed_chain names s (link_weighings names links)))
   pub constant : links_sound names links ≡ true → (now.is_constant && links_constant names (drop i links)) ≡ (begun.is_constant && links_constant names links)
-
-pub chain_begins : (names : List Entry) (links : List (BinaryOperator × Expr)) (begun : Counted) → ChainTo names links 0 begun begun
-chain_begins names links begun = record { stands = λ sound s p. (s, (p, refl)); constant = λ sound. refl }
 
 pub chain_next : (names : List Entry) (links : List (BinaryOperator × Expr)) (i : ℕ) (l : BinaryOperator × Expr) (begun now y more : Counted) → i < length links → l ≡ get_or links i l →
     (is_sound names l.1 ≡ true → IsCounted names l.1 y) → Operates (class_of l.0) l.0 now y more → more.is_constant ≡ (now.is_constant && y.is_constant) →
@@ -74,13 +70,6 @@ pub record PartsTo (names : List Entry) (parts : List Expr) (i width weight : �
   pub widths : all_sound names parts ≡ true → Sums (width_of names) parts i width
   pub weights : all_sound names parts ≡ true → Sums (weight_by_itself names) parts i weight
   pub constants : all_sound names parts ≡ true → (constant && all_constant names (drop i parts)) ≡ all_constant names parts
-
-pub parts_begin : (names : List Entry) (parts : List Expr) → PartsTo names parts 0 0 0 true
-parts_begin names parts = record {
-  widths = λ sound. sums_begin (width_of names) parts;
-  weights = λ sound. sums_begin (weight_by_itself names) parts;
-  constants = λ sound. refl;
-}
 
 pub parts_next : (names : List Entry) (parts : List Expr) (i : ℕ) (x : Expr) (width weight more_width own more_weight : ℕ) (constant more : Bool) (one : Counted) → i < length parts → x ≡ get_or parts i x →
     (is_sound names x ≡ true → IsCounted names x one) → Adds width one.width more_width → ((s : Weighed) → Stands one s → Same own (s.at s.width)) → Adds weight own more_weight →

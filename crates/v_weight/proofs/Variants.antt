@@ -1,5 +1,5 @@
 -- What is counted of each kind of expression, where a match has found it and its parts were taken out.
-use Rattle.std.proofs.Common.{◌≡◌, ◌+◌, ◌*◌, ℕ, List, [], ◌∷◌, map, Bool, true, false, Option, None, Some, refl, sym, ap, ◌∙◌, max, subst}
+use Rattle.std.proofs.Common.{◌≡◌, ◌+◌, ◌*◌, ℕ, List, [], ◌∷◌, map, Bool, true, false, Option, None, refl, sym, ap, ◌∙◌, max, subst}
 use Rattle.std.specs.Prelude.{◌&&◌, not, if◌then◌else◌, is_some, sum}
 use Rattle.std.specs.List.{list_all}
 use Rattle.std.proofs.Math.Nat.{add_assoc, add-zero, zero-add}
@@ -24,13 +24,12 @@ use Rattle.v_meaning.specs.Expressions.{sense_step, sense_of, constant_step, is_
 use Rattle.v_meaning.specs.Declarations.{constant_value}
 use Rattle.v_meaning.specs.Sites.{select_width, is_fixed}
 use Rattle.v_meaning.specs.Proper.{width_of, Judged, sound_step, is_sound, can_join, is_proper_operand, is_part, is_between_1_and_128, proper_value}
-use Rattle.v_meaning.specs.Weights.{Weighing, Weighed, weighed, weighed_by, weighed_chain, own_weight, through_weight, size_of, parts_weight, weight_step, weight_at, weight_by_itself}
+use Rattle.v_meaning.specs.Weights.{Weighed, weighed, weighed_by, weighed_chain, parts_weight, weight_step, weight_at, weight_by_itself}
 use Rattle.v_typing.specs.Sound.{all_sound, links_sound}
 use Rattle.v_weight.specs.declared.counting.Counted.{Counted}
 use Rattle.v_weight.specs.Saturated.{Same}
 use Rattle.v_weight.specs.Polynomials.{Gives}
 use Rattle.v_weight.specs.Counts.{Stands, Prefixes, weighing, weightless, weighed_select, weighed_choice, as_many, recast, link_weighings, links_constant, all_constant, IsCounted, IsChain, AreParts, side_by_side}
-use Rattle.v_weight.proofs.Saturating.{same_refl}
 use Rattle.v_weight.proofs.Lists.{first_of, second_of, not_true, sum_cons}
 
 counted_by : (names : List Entry) (x : Expr) (r : Counted) (w : ℕ) (f : ℕ → ℕ) (b : Bool) → width_of names x ≡ w → weight_at names x ≡ f → is_constant names x ≡ b →

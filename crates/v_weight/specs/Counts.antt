@@ -1,5 +1,5 @@
 -- What is counted of expressions. No public clause names these.
-use Rattle.std.specs.Prelude.{◌≡◌, ℕ, ◌+◌, ◌*◌, List, [], ◌∷◌, map, sum, Bool, true, false, ◌&&◌, if◌then◌else◌, max}
+use Rattle.std.specs.Prelude.{◌≡◌, ℕ, ◌+◌, ◌*◌, List, map, sum, Bool, ◌&&◌, if◌then◌else◌, max}
 use Rattle.std.specs.List.{list_all}
 use Rattle.v_syntax.specs.declared.expr.Expr.{Expr}
 use Rattle.v_syntax.specs.declared.expr.BinaryOperator.{BinaryOperator}

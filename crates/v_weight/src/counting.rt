@@ -1,4 +1,4 @@
-ghost use Rattle.std.specs.Prelude.{◌≡◌, ℕ, Bool};
+ghost use Rattle.std.specs.Prelude.{◌≡◌, ℕ};
 ghost use Rattle.v_meaning.specs.Weights.{Weighed, own_weight};
 ghost use Rattle.v_weight.specs.Saturated.{Same};
 ghost use Rattle.v_weight.specs.Counts.{Stands};

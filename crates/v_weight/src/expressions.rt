@@ -14,8 +14,10 @@ use v_constants::proper_value;
 use v_names::Names;
 use v_syntax::{BinaryOperator, Expr};
 
-// The own width of an expression and its weight at any final width. Each node is visited once; the index of a select is
-// evaluated besides, where it is constant, and holds no select then.
+// The own width of a sound expression and its weight at any final width; here and below nothing is promised of what is
+// not sound. Each node is visited once, but for the constant ones of an index: its value is looked for besides, and that
+// stops at the first part that is not constant, as an inner select is. So the work is linear in the expression, but for
+// the look-ups of names.
 #[cycle(expressions)]
 pub(crate) fn weigh(alloc: Global, names: &Names, x: &Expr) -> Result<Counted, OutOfMemory>
     ensures { IfOk result (λ r. is_sound names.now x.now ≡ true → IsCounted names.now x.now r) }

@@ -1,9 +1,9 @@
 ghost use Rattle.std.specs.Prelude.{◌≡◌, ℕ, ◌*◌, ◌&&◌, true, false, if◌then◌else◌};
 ghost use Rattle.v_meaning.specs.Senses.{Shared, Compared, Shifted, Logical, class_of, is_through};
-ghost use Rattle.v_meaning.specs.Weights.{Weighed, shared_weight, own_weight};
+ghost use Rattle.v_meaning.specs.Weights.{Weighed, shared_weight};
 ghost use Rattle.v_weight.specs.Saturated.{Same};
 ghost use Rattle.v_weight.specs.Polynomials.{Gives};
-ghost use Rattle.v_weight.specs.Counts.{Stands, Operates, Prefixes, weighed_before, weighed_choice, as_many, recast};
+ghost use Rattle.v_weight.specs.Counts.{Stands, Operates, Prefixes, weighed_choice, as_many, recast};
 
 use crate::counting::Counted;
 use crate::polynomial::Polynomial;

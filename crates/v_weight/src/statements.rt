@@ -45,8 +45,8 @@ fn weigh_assignment(
     Ok(plus(plus(writes, target.indices), right))
 }
 
-// What is compared in a case, with the items of one more label: each item weighs the common width (9.5). That is what
-// operators between all of them weigh whose operands take the final width.
+// What is compared in a case, with some more items: each item weighs the common width (9.5), as an operator between it
+// and what stands before it would, whose operands take the final width.
 fn weigh_items(
     alloc: Global,
     names: &Names,
@@ -63,7 +63,7 @@ fn weigh_items(
     Ok(all)
 }
 
-// The same with a label.
+// The same with the items of one more label.
 fn weigh_label(
     alloc: Global,
     names: &Names,
@@ -81,7 +81,7 @@ fn weigh_label(
     }
 }
 
-// What is compared in a case: its expression and the items of all arms.
+// What is compared in a case: the expression, with the items of all arms.
 fn weigh_labels(
     alloc: Global,
     names: &Names,

@@ -1,7 +1,6 @@
-use Rattle.std.proofs.Common.{refl}
 use Rattle.v_weight.proofs.Saturating.{same_refl}
 use Rattle.v_weight.proofs.Variants.{when_number, when_name, when_select, when_part, when_unary, when_chain, when_conditional, when_concat, when_replicate, when_cast}
-use Rattle.v_weight.proofs.Turns.{chain_begins, chain_next, chain_ends, parts_begin, parts_next, parts_end}
+use Rattle.v_weight.proofs.Turns.{chain_next, chain_ends, parts_next, parts_end}
 use Rattle.v_weight.proofs.expressions.+expressions.Goals as goal
 
 pub weigh-returns-in-Number : goal.weigh-returns-in-Number
@@ -45,9 +44,6 @@ pub weigh-returns-in_ok-x-in-Cast : goal.weigh-returns-in_ok-x-in-Cast
 weigh-returns-in_ok-x-in-Cast t c =
     when_cast c.args.names.now c.args.x.now _ _ _ _ _ c.in-Cast.is c.get-in-Cast.ensures c.in_ok-x-in-Cast.ensures c.recast.ensures.stands c.recast.ensures.constant
 
-pub weigh_chain-loop-operator-init : goal.weigh_chain-loop-operator-init
-weigh_chain-loop-operator-init t c = chain_begins c.args.names.now c.args.links.now c.args.first
-
 pub weigh_chain-loop-operator-preserved : goal.weigh_chain-loop-operator-preserved
 weigh_chain-loop-operator-preserved t c =
     chain_next c.args.names.now c.args.links.now _ _ _ _ _ _ c.loop-operator-test.true c.loop-operator-item.is c.in_ok-y.ensures c.operated-all.ensures.stands c.operated-all.ensures.constant
@@ -55,9 +51,6 @@ weigh_chain-loop-operator-preserved t c =
 
 pub weigh_chain-returns : goal.weigh_chain-returns
 weigh_chain-returns t c = chain_ends c.args.names.now c.args.links.now _ _ _ c.loop-operator-test.false c.loop-operator.invariant
-
-pub weigh_parts-loop-x-init : goal.weigh_parts-loop-x-init
-weigh_parts-loop-x-init t c = parts_begin c.args.names.now c.args.parts.now
 
 pub weigh_parts-loop-x-preserved : goal.weigh_parts-loop-x-preserved
 weigh_parts-loop-x-preserved t c =

@@ -1,9 +1,6 @@
 use Rattle.v_meaning.specs.Weights.{declared_weight}
-use Rattle.v_weight.proofs.Lists.{sums_begin, sums_next, sums_end}
+use Rattle.v_weight.proofs.Lists.{sums_next, sums_end}
 use Rattle.v_weight.proofs.modules.weigh_declarations.Goals as goal
-
-pub loop-entry-init : goal.loop-entry-init
-loop-entry-init c = sums_begin declared_weight c.args.entries.now
 
 pub loop-entry-preserved : goal.loop-entry-preserved
 loop-entry-preserved c =

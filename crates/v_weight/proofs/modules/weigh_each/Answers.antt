@@ -1,10 +1,7 @@
 use Rattle.std.proofs.Common.{ℕ}
 use Rattle.v_weight.proofs.Saturating.{same_refl}
-use Rattle.v_weight.proofs.StmtLaws.{begin_in, next_in, end_in}
+use Rattle.v_weight.proofs.StmtLaws.{next_in, end_in}
 use Rattle.v_weight.proofs.modules.weigh_each.Goals as goal
-
-pub loop-part-init : goal.loop-part-init
-loop-part-init g c = begin_in (λ x (d : ℕ). g.T.Weighs.weight_in c.args.names.now x) (g.T.Weighs.is_sound_in c.args.names.now) c.args.parts.now 0
 
 pub loop-part-preserved : goal.loop-part-preserved
 loop-part-preserved g c =

@@ -6,7 +6,7 @@ use Rattle.v_typing.specs.Sound.{all_sound, is_sound_stmt}
 use Rattle.v_weight.specs.Statements.{is_sound_arm}
 use Rattle.v_weight.proofs.Saturating.{same_refl}
 use Rattle.v_weight.proofs.Lists.{second_of}
-use Rattle.v_weight.proofs.StmtLaws.{when_null, when_block, when_if, when_if_else, when_case, when_assign, begin_in, next_in, end_in}
+use Rattle.v_weight.proofs.StmtLaws.{when_null, when_block, when_if, when_if_else, when_case, when_assign, next_in, end_in}
 use Rattle.v_weight.proofs.statements.+statements.Goals as goal
 
 pub weigh_statement-returns-in-Null : goal.weigh_statement-returns-in-Null
@@ -35,9 +35,6 @@ pub weigh_statement-returns-in_ok-all-in-Assign : goal.weigh_statement-returns-i
 weigh_statement-returns-in_ok-all-in-Assign t c =
     when_assign c.args.names.now c.args.statement.now _ _ _ _ c.args.depth _ c.in-Assign.is c.get-in-Assign.ensures c.in_ok-all-in-Assign.ensures
 
-pub weigh_block-loop-statement-init : goal.weigh_block-loop-statement-init
-weigh_block-loop-statement-init t c = begin_in (stmt_weight c.args.names.now) (is_sound_stmt c.args.names.now) c.args.body.now c.args.depth
-
 pub weigh_block-loop-statement-preserved : goal.weigh_block-loop-statement-preserved
 weigh_block-loop-statement-preserved t c =
     next_in (stmt_weight c.args.names.now) (is_sound_stmt c.args.names.now) c.args.body.now _ _ c.args.depth _ _ _ c.loop-statement-test.true c.statement-item.is c.plus-all.ensures c.in_ok-one.ensures
@@ -45,9 +42,6 @@ weigh_block-loop-statement-preserved t c =
 
 pub weigh_block-returns : goal.weigh_block-returns
 weigh_block-returns t c = end_in (stmt_weight c.args.names.now) (is_sound_stmt c.args.names.now) c.args.body.now _ c.args.depth _ c.loop-statement-test.false c.loop-statement.invariant
-
-pub weigh_arms-loop-arm-init : goal.weigh_arms-loop-arm-init
-weigh_arms-loop-arm-init t c = begin_in (λ (a : Arm) (d : ℕ). stmt_weight c.args.names.now a.body d) (is_sound_arm c.args.names.now) c.args.arms.now c.args.depth
 
 pub weigh_arms-loop-arm-preserved : goal.weigh_arms-loop-arm-preserved
 weigh_arms-loop-arm-preserved t c =

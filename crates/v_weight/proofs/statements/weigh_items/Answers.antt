@@ -1,9 +1,5 @@
 use Rattle.v_weight.proofs.Turns.{compared_next, compared_ends}
-use Rattle.v_weight.proofs.StmtLaws.{compared_begins}
 use Rattle.v_weight.proofs.statements.weigh_items.Goals as goal
-
-pub loop-x-init : goal.loop-x-init
-loop-x-init c = compared_begins c.args.names.now c.args.items.now c.args.before
 
 pub loop-x-preserved : goal.loop-x-preserved
 loop-x-preserved c =

@@ -1,5 +1,5 @@
 use Rattle.v_weight.proofs.Saturating.{same_refl}
-use Rattle.v_weight.proofs.TargetLaws.{when_name, when_select, when_part, when_concat, targets_begin, targets_next, targets_end}
+use Rattle.v_weight.proofs.TargetLaws.{when_name, when_select, when_part, when_concat, targets_next, targets_end}
 use Rattle.v_weight.proofs.targets.+targets.Goals as goal
 
 pub weigh_target-returns-in-Name : goal.weigh_target-returns-in-Name
@@ -15,9 +15,6 @@ weigh_target-returns-in_ok-width-in-Part t c =
 
 pub weigh_target-returns-in_ok-all-in-Concat : goal.weigh_target-returns-in_ok-all-in-Concat
 weigh_target-returns-in_ok-all-in-Concat t c = when_concat c.args.names.now c.args.target.now _ _ _ _ c.in-Concat.is c.as_slice.ensures c.in_ok-all-in-Concat.ensures
-
-pub weigh_targets-loop-target-init : goal.weigh_targets-loop-target-init
-weigh_targets-loop-target-init t c = targets_begin c.args.names.now c.args.targets.now
 
 pub weigh_targets-loop-target-preserved : goal.weigh_targets-loop-target-preserved
 weigh_targets-loop-target-preserved t c =

@@ -1,0 +1,9 @@
+pub mod Saturating
+pub mod Adding
+pub mod Choices
+pub mod Lists
+pub mod Variants
+pub mod Turns
+pub mod TargetLaws
+pub mod StmtLaws
+pub mod ModuleLaws

@@ -1,4 +1,4 @@
-ghost use Rattle.std.specs.Prelude.{◌≡◌, OnOk, true, flat_map};
+ghost use Rattle.std.specs.Prelude.{OnOk, flat_map};
 ghost use Rattle.std.specs.List.{list_all};
 ghost use Rattle.v_meaning.specs.Proper.{is_sound};
 ghost use Rattle.v_meaning.specs.Sites.{sites_of};

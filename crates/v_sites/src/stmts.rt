@@ -1,4 +1,4 @@
-ghost use Rattle.std.specs.Prelude.{◌≡◌, OnOk, true, flat_map};
+ghost use Rattle.std.specs.Prelude.{OnOk, flat_map};
 ghost use Rattle.std.specs.List.{list_all};
 ghost use Rattle.v_meaning.specs.Statements.{label_items};
 ghost use Rattle.v_meaning.specs.Sites.{target_sites, items_sites, stmt_sites};

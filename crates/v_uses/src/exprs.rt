@@ -1,7 +1,4 @@
-ghost use Rattle.std.specs.Prelude.{List, OnOk, flat_map};
-ghost use Rattle.v_syntax.specs.declared.expr.Expr.{Expr};
-ghost use Rattle.v_syntax.specs.declared.expr.BinaryOperator.{BinaryOperator};
-ghost use Rattle.v_meaning.specs.declared.names.Entry.{Entry};
+ghost use Rattle.std.specs.Prelude.{OnOk, flat_map};
 ghost use Rattle.v_meaning.specs.Uses.{reads_of};
 ghost use Rattle.v_uses.specs.Adding.{Adds, accessed, link_reads};
 

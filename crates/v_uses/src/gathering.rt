@@ -1,7 +1,6 @@
 ghost use Rattle.std.specs.Prelude.{◌≡◌, [], ◌∷◌, List, IfOk, OnOk, map, flat_map};
-ghost use Rattle.v_syntax.specs.declared.module.Declared.{Declared};
 ghost use Rattle.v_meaning.specs.declared.names.Entry.{Entry};
-ghost use Rattle.v_meaning.specs.Uses.{reads_of, use_of, wire_use, item_assign_uses, item_process_uses, uses_of};
+ghost use Rattle.v_meaning.specs.Uses.{reads_of, use_of, item_assign_uses, item_process_uses, uses_of};
 ghost use Rattle.v_uses.specs.Seen.{seen_of, assign_seen, process_seen};
 ghost use Rattle.v_uses.specs.Gathered.{assign_in, process_in, uses_in};
 ghost use Rattle.v_uses.specs.Adding.{Adds, assigns_seen, processes_seen, setting_use, wire_uses};

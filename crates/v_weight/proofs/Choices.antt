@@ -1,12 +1,10 @@
 -- What operators make of what is counted of their operands, where a test or a match has found which they are.
-use Rattle.std.proofs.Common.{◌≡◌, ◌*◌, ℕ, Bool, subst}
+use Rattle.std.proofs.Common.{◌≡◌, ℕ, Bool, subst}
 use Rattle.std.specs.Prelude.{if◌then◌else◌}
 use Rattle.v_syntax.specs.declared.expr.BinaryOperator.{BinaryOperator}
 use Rattle.v_meaning.specs.Senses.{Class}
-use Rattle.v_weight.specs.declared.polynomial.Polynomial.{Polynomial}
 use Rattle.v_weight.specs.declared.counting.Counted.{Counted}
 use Rattle.v_weight.specs.Saturated.{Same}
-use Rattle.v_weight.specs.Polynomials.{Gives}
 use Rattle.v_weight.specs.Counts.{Operates, Prefixes}
 
 pub of_class : (class other : Class) (op : BinaryOperator) (x y r : Counted) → class ≡ other → Operates class op x y r → Operates other op x y r
@@ -17,6 +15,3 @@ of_way through other x r is h = subst (λ (b : Bool). Prefixes b x r) is h
 
 pub if_fixed : (fixed other : Bool) (r n : ℕ) → fixed ≡ other → Same r (if fixed then 0 else n) → Same r (if other then 0 else n)
 if_fixed fixed other r n is h = subst (λ (b : Bool). Same r (if b then 0 else n)) is h
-
-pub gives_amount : (fixed other : Bool) (p : Polynomial) (n : ℕ) → fixed ≡ other → Gives p (λ w. if fixed then 0 else w * n) → Gives p (λ w. if other then 0 else w * n)
-gives_amount fixed other p n is h = subst (λ (b : Bool). Gives p (λ w. if b then 0 else w * n)) is h

@@ -2,7 +2,7 @@
 use Rattle.std.proofs.Common.{◌≡◌, ◌<◌, ◌≤◌, ◌+◌, ℕ, zero, suc, List, [], ◌∷◌, map, length, drop, get_or, drop-cons, add-one, Bool, true, false, refl, sym, ap, ◌∙◌}
 use Rattle.std.specs.Prelude.{sum, ◌&&◌, not}
 use Rattle.std.specs.List.{list_all}
-use Rattle.std.proofs.Math.Nat.{add_assoc, add-zero, zero-add}
+use Rattle.std.proofs.Math.Nat.{add_assoc, add-zero}
 use Rattle.std.proofs.lemmas.List.{drop_all}
 use Rattle.std.proofs.lemmas.List.Sums.{sum-map, sum_by-cons}
 use Rattle.v_weight.specs.Saturated.{Same}

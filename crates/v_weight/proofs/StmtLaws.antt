@@ -31,7 +31,6 @@ use Rattle.v_weight.specs.Saturated.{Same}
 use Rattle.v_weight.specs.Counts.{Stands, weighing}
 use Rattle.v_weight.specs.Statements.{compared_behind, Compares, arm_labels, arms_items, comparison_weight, block_sound, is_sound_arm, arms_sound}
 use Rattle.v_weight.proofs.Saturating.{same_path, same_trans}
-use Rattle.v_weight.proofs.Turns.{ComparedTo}
 use Rattle.v_weight.proofs.Lists.{first_of, second_of, next_is, passes, sum_cons, Sums, Adds, sums_next, sums_end}
 
 -- ---- what a case compares

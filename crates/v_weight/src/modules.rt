@@ -132,11 +132,14 @@ fn weigh_declarations(entries: &[Entry]) -> u64
     all
 }
 
-/// The weight of a module, whose declared names these are; 2^64 - 1 where it is greater. It is the sum of what there is to
-/// build: the bits of variables and memories, those of nets that are assigned, for each assignment of a process the bits
-/// of its whole target in each `if` and `case` that encloses it and outside of them, and what operators and choices do at
-/// the widths at which their expressions are evaluated (IEEE Std 1364-2005, 5.4). `OutOfMemory` is the only other answer.
-/// Each part of the module is visited once.
+/// The weight of a module, whose declared names these are; 2^64 - 1 where it is greater. It is a sum over the parts of the
+/// module: of a variable its width, and of a memory that of all its words; of a net that is assigned its width; of an
+/// assignment in a process the size of all variables and memories that it writes, times one more than the number of `if`
+/// and `case` statements that enclose it; of an `if` the width of its condition; of each item of a case the common width;
+/// and of each operator and select what it does at the width at which it is evaluated (IEEE Std 1364-2005, 5.4): the
+/// square of the width for `*`, the width times the amount's for a shift by no constant, the size of the vector or memory
+/// for an index that is not fixed, and a width, or two, for the others. `OutOfMemory` is the only other answer. The work
+/// is linear in the module, but for the look-ups of names.
 pub fn weight(alloc: Global, names: &Names, module: &Module) -> Result<u64, OutOfMemory>
     requires sound { are_sound_items names.now «module».now.items ≡ true }
     ensures { IfOk result (λ w. w ≡ min (weight_of names.now «module».now.items) (2 ^ 64 - 1)) }

@@ -1,7 +1,6 @@
 -- What a sound expression holds is sound.
 use Rattle.std.proofs.Common.{◌≡◌, ◌<◌, ◌≤◌, ◌+◌, ◌*◌, ap, sym, subst, ◌∙◌, refl, ℕ, zero, suc, List, [], ◌∷◌, map, Bool, true, false, arith}
 use Rattle.std.specs.Prelude.{◌&&◌, not, nat_le, nat_lt, if◌then◌else◌, is_some, Option, None, Some}
-use Rattle.std.specs.List.{list_all}
 use Rattle.std.proofs.lemmas.Bool.{leb-true, le-leb, ltb-true}
 use Rattle.std.proofs.lemmas.List.Folds.{list_all-map}
 use Rattle.v_syntax.specs.declared.token.Ident.{Ident}
@@ -17,7 +16,7 @@ use Rattle.v_meaning.specs.Senses.{Sense, leaf, beside, joined_behind, joined}
 use Rattle.v_meaning.specs.declared.names.Entry.{Entry}
 use Rattle.v_meaning.specs.Names.{entry_of, or_zero}
 use Rattle.v_meaning.specs.Literals.{is_wrong_number}
-use Rattle.v_meaning.specs.Expressions.{sense_of, is_constant}
+use Rattle.v_meaning.specs.Expressions.{sense_of}
 use Rattle.v_meaning.specs.Declarations.{constant_value}
 use Rattle.v_meaning.specs.Proper.{Judged, judged_exprs, all_width, are_sound, can_join, is_between_1_and_128, is_part, sound_step, is_sound, is_proper, proper_value}
 use Rattle.v_core.specs.declared.open.Open.{Open}

@@ -1,7 +1,7 @@
 -- Which targets, statements and items can be typed: all their expressions are sound, bounds of targets descend within the
 -- declared range, and targets side by side have 1 to 128 bits. A module that keeps the rules of declarations and
 -- expressions has no others.
-use Rattle.std.specs.Prelude.{ℕ, List, [], ◌∷◌, map, Bool, true, ◌&&◌, Option, None, Some}
+use Rattle.std.specs.Prelude.{List, map, Bool, true, ◌&&◌, Option, None, Some}
 use Rattle.std.specs.List.{list_all}
 use Rattle.v_syntax.specs.declared.expr.Expr.{Expr}
 use Rattle.v_syntax.specs.declared.expr.Placed.{Placed}

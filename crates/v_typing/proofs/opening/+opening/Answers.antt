@@ -2,12 +2,15 @@ use denote.Param.Weighed.{most, at_most}
 use Rattle.std.proofs.Common.{arith, ap, ◌∙◌}
 use Rattle.v_meaning.specs.Expressions.{number_sense, open_at}
 use Rattle.v_meaning.specs.declared.literal.Literal.{Literal}
+use Rattle.v_meaning.specs.Proper.{is_sound}
+use Rattle.v_syntax.specs.declared.expr.Expr.{Expr}
+use Rattle.v_syntax.specs.declared.expr.BinaryOperator.{BinaryOperator}
 use Rattle.v_syntax.proofs.expr.Expr.TheLaws.{the_size}
 use Rattle.v_typing.proofs.Variants.{when_number, when_name, when_select, when_unary, when_cast, when_conditional, when_chain, when_concat, when_part, when_replicate}
 use Rattle.v_typing.proofs.SoundLaws.{sound_number, sound_select, sound_unary, sound_cast, sound_condition, sound_then, sound_otherwise, sound_first, sound_links, sound_parts, sound_narrow, sound_count, sound_room, sound_inner, sound_inner_narrow, sound_part}
 use Rattle.v_core.specs.Values.{Value}
 use Rattle.v_typing.proofs.Depths.{link_size, select_deeper, unary_deeper, cast_deeper, condition_deeper, then_deeper, otherwise_deeper, first_deeper, links_deeper, parts_deeper, inner_deeper}
-use Rattle.v_typing.proofs.Turns.{chained_next, link_sound, more_links_sound, joined_next, part_sound, more_parts_sound, room, joined_done}
+use Rattle.v_typing.proofs.Turns.{this_passes, others_pass, chained_next, joined_next, room, joined_done}
 use Rattle.v_typing.proofs.OperatorLaws.{Meaning}
 use Rattle.v_typing.proofs.opening.+opening.Goals as goal
 
@@ -39,14 +42,14 @@ pub opened-returns-in_ok-o-in-Cast : goal.opened-returns-in_ok-o-in-Cast
 opened-returns-in_ok-o-in-Cast t c = ap (λ (f : Meaning). f c.args.names.now) c.in_ok-o-in-Cast.ensures ∙ when_cast c.args.names.now c.args.sites.now c.args.x.now _ _ _ _ c.in-Cast.is c.get-in-Cast.ensures c.in_ok-x-in-Cast.ensures
 
 pub chained-loop-operator-preserved : goal.chained-loop-operator-preserved
-chained-loop-operator-preserved t c = (chained_next c.args.names.now c.args.sites.now _ _ _ _ c.args.links.now _ _ c.loop-operator-test.true c.loop-operator-item.is c.in_ok-y.ensures (ap (λ (f : Meaning). f c.args.names.now) c.in_ok-all.ensures) c.loop-operator.invariant.0, more_links_sound c.args.names.now c.args.links.now _ _ c.loop-operator-test.true c.loop-operator-item.is c.loop-operator.invariant.1)
+chained-loop-operator-preserved t c = (chained_next c.args.names.now c.args.sites.now _ _ _ _ c.args.links.now _ _ c.loop-operator-test.true c.loop-operator-item.is c.in_ok-y.ensures (ap (λ (f : Meaning). f c.args.names.now) c.in_ok-all.ensures) c.loop-operator.invariant.0, others_pass (λ (link : BinaryOperator × Expr). is_sound c.args.names.now link.1) c.args.links.now _ _ c.loop-operator-test.true c.loop-operator-item.is c.loop-operator.invariant.1)
 
 pub joined-wider-width-requires : goal.joined-wider-width-requires
 joined-wider-width-requires t c = room c.args.names.now c.args.sites.now c.args.parts.now _ _ _ c.loop-x.typed _ _ c.loop-x-test.true c.x-item.is c.in_ok-one.ensures c.loop-x.invariant.0 c.requires.narrow
 
 pub joined-loop-x-preserved : goal.joined-loop-x-preserved
 joined-loop-x-preserved t c =
-    rw c.wider-width.ensures (joined_next c.args.names.now c.args.sites.now c.args.parts.now _ _ _ c.loop-x.typed _ _ _ _ c.loop-x-test.true c.x-item.is c.in_ok-one.ensures c.in_ok-push.ensures.ok (ap (λ (f : Value). f c.args.names.now) c.in_ok-t.ensures) c.loop-x.invariant.0, more_parts_sound c.args.names.now c.args.parts.now _ _ c.loop-x-test.true c.x-item.is c.loop-x.invariant.1)
+    rw c.wider-width.ensures (joined_next c.args.names.now c.args.sites.now c.args.parts.now _ _ _ c.loop-x.typed _ _ _ _ c.loop-x-test.true c.x-item.is c.in_ok-one.ensures c.in_ok-push.ensures.ok (ap (λ (f : Value). f c.args.names.now) c.in_ok-t.ensures) c.loop-x.invariant.0, others_pass (is_sound c.args.names.now) c.args.parts.now _ _ c.loop-x-test.true c.x-item.is c.loop-x.invariant.1)
 
 pub joined-returns : goal.joined-returns
 joined-returns t c = joined_done c.args.names.now c.args.sites.now c.args.parts.now _ _ c.loop-x.typed _ _ _ c.loop-x-test.false c.leaf.ensures c.side_by_side.ensures c.loop-x.invariant.0
@@ -79,10 +82,10 @@ pub opened-joined-requires : goal.opened-joined-requires
 opened-joined-requires t c = (omega (arith, ap the_size c.in-Concat.is, parts_deeper c.in-Concat.brace c.in-Concat.parts, ap (most the_size) c.as_slice-in-Concat.ensures), (sound_parts c.args.names.now c.args.x.now _ _ _ c.in-Concat.is c.as_slice-in-Concat.ensures c.requires.sound, sound_narrow c.args.names.now c.args.sites.now c.args.x.now _ _ _ c.in-Concat.is c.as_slice-in-Concat.ensures c.requires.sound))
 
 pub chained-opened-requires : goal.chained-opened-requires
-chained-opened-requires t c = (omega (arith, at_most link_size c.args.links.now c.loop-operator.operator-index c.loop-operator-item.result c.loop-operator-test.true, ap link_size c.loop-operator-item.is), link_sound c.args.names.now c.args.links.now _ _ c.loop-operator-test.true c.loop-operator-item.is c.loop-operator.invariant.1)
+chained-opened-requires t c = (omega (arith, at_most link_size c.args.links.now c.loop-operator.operator-index c.loop-operator-item.result c.loop-operator-test.true, ap link_size c.loop-operator-item.is), this_passes (λ (link : BinaryOperator × Expr). is_sound c.args.names.now link.1) c.args.links.now _ _ c.loop-operator-test.true c.loop-operator-item.is c.loop-operator.invariant.1)
 
 pub joined-opened-requires : goal.joined-opened-requires
-joined-opened-requires t c = (omega (arith, at_most the_size c.args.parts.now c.loop-x.x-index c.x-item.result c.loop-x-test.true, ap the_size c.x-item.is), part_sound c.args.names.now c.args.parts.now _ _ c.loop-x-test.true c.x-item.is c.loop-x.invariant.1)
+joined-opened-requires t c = (omega (arith, at_most the_size c.args.parts.now c.loop-x.x-index c.x-item.result c.loop-x-test.true, ap the_size c.x-item.is), this_passes (is_sound c.args.names.now) c.args.parts.now _ _ c.loop-x-test.true c.x-item.is c.loop-x.invariant.1)
 
 pub opened-part_between-requires : goal.opened-part_between-requires
 opened-part_between-requires t c = record { bounds = sound_part c.args.names.now c.args.x.now _ _ _ _ _ _ _ _ c.in-Part.is c.get-in-Part.ensures c.get-in-Part-2.ensures c.requires.sound }

@@ -46,3 +46,7 @@ links_deeper x links = rw (sym (e.rolls-Chain x links), size_is-Expr (roll-Expr 
 
 pub parts_deeper : (brace : ℕ) (parts : List Expr) → most the_size parts < the_size (e.Concat brace parts)
 parts_deeper brace parts = rw (sym (e.rolls-Concat brace parts), size_is-Expr (roll-Expr (o.Concat brace parts)), out-roll-Expr (o.Concat brace parts)) (omega arith)
+
+pub inner_deeper : (brace at : ℕ) (count : Expr) (inner : ℕ) (parts : List Expr) → most the_size parts < the_size (e.Replicate brace at count inner parts)
+inner_deeper brace at count inner parts =
+    rw (sym (e.rolls-Replicate brace at count inner parts), size_is-Expr (roll-Expr (o.Replicate brace at count inner parts)), out-roll-Expr (o.Replicate brace at count inner parts)) (omega arith)

@@ -1,6 +1,6 @@
 -- Names, selects and numbers as leaves.
-use Rattle.std.proofs.Common.{◌≡◌, ap, sym, ◌∙◌, refl, ℕ, zero, suc, ◌+◌, ◌*◌, List, Bool, arith}
-use Rattle.std.specs.Prelude.{◌&&◌, if◌then◌else◌, slice_get, slice_index}
+use Rattle.std.proofs.Common.{◌≡◌, ap, sym, ◌∙◌, refl, ℕ, zero, suc, ◌+◌, ◌*◌, List, Bool, false, ◌-◌, arith}
+use Rattle.std.specs.Prelude.{◌/◌, ◌%◌, ◌^◌, ◌&&◌, if◌then◌else◌, slice_get, slice_index}
 use Rattle.std.proofs.Math.Path.{fun_ext}
 use Rattle.v_meaning.specs.Views.{View}
 use Rattle.v_meaning.specs.declared.literal.Literal.{Literal}
@@ -9,7 +9,7 @@ use Rattle.v_meaning.specs.Senses.{Sense, own, leaf, index_of}
 use Rattle.v_meaning.specs.declared.names.Kind.{Kind}
 use Rattle.v_meaning.specs.declared.names.Kind.TheVariants.{Parameter, Clock, Input, Net, Combinational, Variable, Memory}
 use Rattle.v_meaning.specs.declared.names.Entry.{Entry}
-use Rattle.v_meaning.specs.Names.{entry_or, word_of, read, read_selected, selected}
+use Rattle.v_meaning.specs.Names.{entry_or, word_of, read, read_part, read_selected, selected, span}
 use Rattle.v_meaning.specs.Expressions.{open_at, number_of_place}
 use Rattle.v_core.specs.declared.typed.Typed.{Typed}
 use Rattle.v_core.specs.declared.open.Open.{Open}
@@ -72,3 +72,13 @@ plain l free t p h =
 pub open_is : (l : Literal) (sites : List ℕ) (at site : ℕ) (t : Typed) → typed_value t ≡ (λ names v. literal_value l (slice_index v.sites site)) → site ≡ number_of_place sites at →
     typed_value t ≡ (λ names v. literal_value l (open_at sites at v))
 open_is l sites at site t p place = p ∙ ap {B = Value} (λ (k : ℕ) (names : List Entry) (v : View). literal_value l (slice_index v.sites k)) place
+
+-- ---- parts
+
+pub part_is : (names : List Entry) (e : Entry) (o : Open) (t : Typed) (n w low msb lsb : ℕ) →
+    sense_in o ≡ (λ names. leaf w false (typed_value t names)) → typed_value t ≡ (λ names v. word_of (entry_at names n).kind v / 2 ^ low % 2 ^ w) →
+    entry_or (slice_get names n) ≡ e → w ≡ span msb lsb → low ≡ lsb - e.low → sense_in o names ≡ read_part e msb lsb
+part_is names e o t n w low msb lsb is p q width offset =
+    ap (λ (f : Meaning). f names) is ∙ ap (λ (f : Value). leaf w false (f names)) p ∙ ap (λ (x : Entry). leaf w false (λ v. word_of x.kind v / 2 ^ low % 2 ^ w)) q
+    ∙ ap (λ (u : ℕ). leaf u false (λ v. word_of e.kind v / 2 ^ low % 2 ^ u)) width
+    ∙ ap (λ (k : ℕ). leaf (span msb lsb) false (λ v. word_of e.kind v / 2 ^ k % 2 ^ span msb lsb)) offset

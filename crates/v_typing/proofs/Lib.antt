@@ -1,5 +1,6 @@
+pub mod Sites
 pub mod Variants
-pub mod FitLaws
+pub mod SoundLaws
 pub mod Turns
 pub mod Depths
 pub mod OperatorLaws

@@ -1,11 +1,11 @@
 -- What operators make of open expressions, where their operands were fixed.
-use Rattle.std.proofs.Common.{◌≡◌, ap, sym, ◌∙◌, ℕ, List, Bool, false, max}
+use Rattle.std.proofs.Common.{◌≡◌, ap, sym, ◌∙◌, ℕ, ◌*◌, List, Bool, false, max}
 use Rattle.std.specs.Prelude.{◌&&◌}
 use Rattle.v_syntax.specs.declared.token.Cast.{Cast}
 use Rattle.v_syntax.specs.declared.expr.UnaryOperator.{UnaryOperator}
 use Rattle.v_syntax.specs.declared.expr.BinaryOperator.{BinaryOperator}
 use Rattle.v_meaning.specs.Views.{View}
-use Rattle.v_meaning.specs.Senses.{Sense, own, leaf, operation, operation_before, by_class, Compared, Logical, is_through, through, prefixed, is_signed, recast}
+use Rattle.v_meaning.specs.Senses.{Sense, own, leaf, operation, operation_before, by_class, Compared, Logical, is_through, through, prefixed, copies, replicated, is_signed, recast}
 use Rattle.v_meaning.specs.declared.names.Entry.{Entry}
 use Rattle.v_core.specs.declared.typed.Typed.{Typed}
 use Rattle.v_core.specs.declared.open.Open.{Open}
@@ -53,3 +53,10 @@ pub recast_is : (sign : Cast) (signed : Bool) (x o : Open) (t : Typed) →
     sense_in o ≡ (λ names. recast sign (sense_in x names))
 recast_is sign signed x o t is p h =
     is ∙ leaf_value x.width signed _ _ p ∙ ap {B = Meaning} (λ (b : Bool) (names : List Entry). leaf x.width b (own (sense_in x names))) h
+
+pub replicated_is : (count n : ℕ) (x o : Open) (t u : Typed) →
+    sense_in o ≡ (λ names. leaf (n * x.width) false (typed_value t names)) → typed_value t ≡ (λ names v. copies n x.width (typed_value u names v)) →
+    typed_value u ≡ (λ names. own (sense_in x names)) → n ≡ count → sense_in o ≡ (λ names. replicated count (sense_in x names))
+replicated_is count n x o t u is p q h =
+    is ∙ leaf_value (n * x.width) false _ _ (p ∙ ap {B = Value} (λ (f : Value) (names : List Entry) (v : View). copies n x.width (f names v)) q)
+    ∙ ap {B = Meaning} (λ (k : ℕ) (names : List Entry). replicated k (sense_in x names)) h

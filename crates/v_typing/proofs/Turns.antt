@@ -1,6 +1,7 @@
 -- A turn of the loops over the operands of a chain and over the parts of a concatenation.
 use Rattle.std.proofs.Common.{◌≡◌, ◌<◌, ◌≤◌, ◌+◌, ◌*◌, ap, sym, ◌∙◌, refl, ℕ, suc, length, get_or, drop, drop-cons, add-one, List, [], ◌∷◌, ◌++◌, Bool, true, false, arith}
 use Rattle.std.specs.Prelude.{◌^◌, nat_le, if◌then◌else◌}
+use Rattle.std.specs.List.{list_all}
 use Rattle.std.proofs.Math.Path.{fun_ext}
 use Rattle.std.proofs.lemmas.Bool.{leb-true}
 use Rattle.std.proofs.lemmas.List.{drop_all}
@@ -15,11 +16,19 @@ use Rattle.v_core.specs.declared.open.Open.{Open}
 use Rattle.v_core.specs.Bodies.{sense_in}
 use Rattle.v_core.specs.Values.{Value, typed_value, concat_value, part_values}
 use Rattle.v_typing.specs.Meanings.{meanings, link_meanings}
-use Rattle.v_typing.specs.Fit.{is_fit, are_fit, links_fit}
-use Rattle.v_typing.proofs.FitLaws.{first_of, second_of}
+use Rattle.v_typing.proofs.SoundLaws.{first_of, second_of}
 
 next_is : {X : Type 0} (xs : List X) (i : ℕ) (x : X) → i < length xs → x ≡ get_or xs i x → drop i xs ≡ x ∷ drop (i + 1) xs
 next_is xs i x h is = rw (add-one i) (drop-cons xs i x h ∙ ap (λ y. y ∷ drop (suc i) xs) (sym is))
+
+-- ---- a test of each element
+
+pub this_passes : {X : Type 0} (test : X → Bool) (xs : List X) (i : ℕ) (x : X) → i < length xs → x ≡ get_or xs i x → list_all test (drop i xs) ≡ true → test x ≡ true
+this_passes test xs i x h is all = first_of (test x) (list_all test (drop (i + 1) xs)) (sym (ap (list_all test) (next_is xs i x h is)) ∙ all)
+
+pub others_pass : {X : Type 0} (test : X → Bool) (xs : List X) (i : ℕ) (x : X) → i < length xs → x ≡ get_or xs i x → list_all test (drop i xs) ≡ true →
+    list_all test (drop (i + 1) xs) ≡ true
+others_pass test xs i x h is all = second_of (test x) (list_all test (drop (i + 1) xs)) (sym (ap (list_all test) (next_is xs i x h is)) ∙ all)
 
 -- ---- chains
 
@@ -30,27 +39,7 @@ chained_next names sites s t y whole links i l h is p q before =
     ap (λ (z : Sense). chained z (link_meanings names sites (drop (i + 1) links))) (q ∙ ap (operated l.0 s) p)
     ∙ sym (ap (λ (r : List (BinaryOperator × Expr)). chained s (link_meanings names sites r)) (next_is links i l h is)) ∙ before
 
-pub link_fit : (names : List Entry) (sites : List ℕ) (links : List (BinaryOperator × Expr)) (i : ℕ) (l : BinaryOperator × Expr) → i < length links → l ≡ get_or links i l →
-    links_fit names sites (drop i links) ≡ true → is_fit names sites l.1 ≡ true
-link_fit names sites links i l h is fit =
-    first_of (is_fit names sites l.1) (links_fit names sites (drop (i + 1) links)) (sym (ap (links_fit names sites) (next_is links i l h is)) ∙ fit)
-
-pub more_links_fit : (names : List Entry) (sites : List ℕ) (links : List (BinaryOperator × Expr)) (i : ℕ) (l : BinaryOperator × Expr) → i < length links → l ≡ get_or links i l →
-    links_fit names sites (drop i links) ≡ true → links_fit names sites (drop (i + 1) links) ≡ true
-more_links_fit names sites links i l h is fit =
-    second_of (is_fit names sites l.1) (links_fit names sites (drop (i + 1) links)) (sym (ap (links_fit names sites) (next_is links i l h is)) ∙ fit)
-
 -- ---- concatenations
-
-pub part_fit : (names : List Entry) (sites : List ℕ) (parts : List Expr) (i : ℕ) (x : Expr) → i < length parts → x ≡ get_or parts i x →
-    are_fit names sites (drop i parts) ≡ true → is_fit names sites x ≡ true
-part_fit names sites parts i x h is fit =
-    first_of (is_fit names sites x) (are_fit names sites (drop (i + 1) parts)) (sym (ap (are_fit names sites) (next_is parts i x h is)) ∙ fit)
-
-pub more_parts_fit : (names : List Entry) (sites : List ℕ) (parts : List Expr) (i : ℕ) (x : Expr) → i < length parts → x ≡ get_or parts i x →
-    are_fit names sites (drop i parts) ≡ true → are_fit names sites (drop (i + 1) parts) ≡ true
-more_parts_fit names sites parts i x h is fit =
-    second_of (is_fit names sites x) (are_fit names sites (drop (i + 1) parts)) (sym (ap (are_fit names sites) (next_is parts i x h is)) ∙ fit)
 
 same_in_both : (b : Bool) (n : ℕ) → (if b then n else n) ≡ n
 same_in_both true n = refl

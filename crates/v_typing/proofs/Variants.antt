@@ -10,11 +10,13 @@ use Rattle.v_syntax.specs.declared.expr.Number.{Number}
 use Rattle.v_syntax.specs.declared.expr.UnaryOperator.{UnaryOperator}
 use Rattle.v_syntax.specs.declared.expr.BinaryOperator.{BinaryOperator}
 use Rattle.v_meaning.specs.Literals.{literal_of}
-use Rattle.v_meaning.specs.Senses.{Sense, prefixed, chained, chosen, joined, recast}
+use Rattle.v_meaning.specs.Senses.{Sense, constant, prefixed, chained, chosen, joined, replicated, recast}
 use Rattle.v_meaning.specs.declared.names.Entry.{Entry}
-use Rattle.v_meaning.specs.Names.{entry_of, read, selected}
+use Rattle.v_meaning.specs.Names.{entry_of, or_zero, read, read_part, selected}
 use Rattle.v_meaning.specs.Expressions.{number_sense, open_at, sense_step, sense_of}
+use Rattle.v_meaning.specs.Declarations.{constant_value}
 use Rattle.v_typing.specs.Meanings.{meanings, link_meanings}
+use Rattle.v_typing.proofs.Sites.{same}
 
 pub when_number : (names : List Entry) (sites : List ℕ) (x : Expr) (n : Number) → x ≡ e.Number n →
     number_sense (literal_of n.spelling) (open_at sites n.at) ≡ sense_of names sites x
@@ -74,3 +76,23 @@ when_concat names sites x brace parts more is p =
     ∙ sym
     (ap (sense_of names sites) (is ∙ sym (e.rolls-Concat brace parts)) ∙ fold-roll-Expr Sense (sense_step names sites) (o.Concat brace parts)
     ∙ ap joined (parts_map names sites parts))
+
+-- ---- what holds constants
+
+-- the number of a constant, whatever sites there are
+constant_at : (names : List Entry) (sites : List ℕ) (x y : Expr) → y ≡ x → or_zero (constant_value names y) ≡ or_zero (constant (sense_of names sites x))
+constant_at names sites x y p = ap (λ (z : Expr). or_zero (constant_value names z)) p ∙ sym (ap (λ (s : Sense). or_zero (constant s)) (same names sites x))
+
+pub when_part : (names : List Entry) (sites : List ℕ) (x msb lsb m l : Expr) (n : Ident) (bracket msb_at lsb_at : ℕ) → x ≡ e.Part n bracket msb_at msb lsb_at lsb → m ≡ msb → l ≡ lsb →
+    read_part (entry_of names n.name) (or_zero (constant_value names m)) (or_zero (constant_value names l)) ≡ sense_of names sites x
+when_part names sites x msb lsb m l n bracket msb_at lsb_at is p q =
+    (λ i. read_part (entry_of names n.name) (constant_at names sites msb m p i) (constant_at names sites lsb l q i))
+    ∙ sym (ap (sense_of names sites) (is ∙ sym (e.rolls-Part n bracket msb_at msb lsb_at lsb)) ∙ fold-roll-Expr Sense (sense_step names sites) (o.Part n bracket msb_at msb lsb_at lsb))
+
+pub when_replicate : (names : List Entry) (sites : List ℕ) (x count n : Expr) (brace at inner : ℕ) (parts more : List Expr) (s : Sense) → x ≡ e.Replicate brace at count inner parts → n ≡ count →
+    more ≡ parts → s ≡ joined (meanings names sites more) → replicated (or_zero (constant_value names n)) s ≡ sense_of names sites x
+when_replicate names sites x count n brace at inner parts more s is p q h =
+    (λ i. replicated (constant_at names sites count n p i) ((h ∙ ap (λ (xs : List Expr). joined (meanings names sites xs)) q ∙ sym (ap joined (parts_map names sites parts))) i))
+    ∙ sym
+    (ap (sense_of names sites) (is ∙ sym (e.rolls-Replicate brace at count inner parts))
+    ∙ fold-roll-Expr Sense (sense_step names sites) (o.Replicate brace at count inner parts))

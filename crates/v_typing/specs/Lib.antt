@@ -1,3 +1,2 @@
-pub mod Classes
 pub mod Meanings
-pub mod Fit
+pub mod Sound

@@ -1,6 +1,6 @@
-ghost use Rattle.std.specs.Prelude.{◌≡◌, ◌&&◌, if◌then◌else◌, slice_index, IfOk};
+ghost use Rattle.std.specs.Prelude.{◌≡◌, ◌≤◌, ◌<◌, ◌+◌, ◌-◌, ◌/◌, ◌%◌, ◌^◌, ◌&&◌, if◌then◌else◌, slice_index, IfOk};
 ghost use Rattle.v_meaning.specs.Literals.{literal_value};
-ghost use Rattle.v_meaning.specs.Names.{read, selected, entry_of, word_of};
+ghost use Rattle.v_meaning.specs.Names.{read, read_part, selected, span, entry_of, word_of};
 ghost use Rattle.v_meaning.specs.Expressions.{number_sense, open_at};
 ghost use Rattle.v_core.specs.Values.{typed_value, entry_at, selected_value, index_in};
 ghost use Rattle.v_core.specs.Bodies.{sense_in};
@@ -100,6 +100,49 @@ pub fn selected(
     let width = select_width(known.kind, known.width);
     let signed = select_sign(known.kind, known.signed);
     Ok(leaf(width, signed, t))
+}
+
+// So many bits of the word of a name, from the number of the lowest one up.
+fn bits(name: u32, at: u64, low: u32, width: u32) -> Typed
+    ensures { typed_value result ≡ (λ names v. word_of (entry_at names name).kind v / 2 ^ low % 2 ^ width) }
+{
+    Typed::Part {
+        name,
+        at,
+        low,
+        width,
+    }
+}
+
+// How many bits there are from the most to the least significant one.
+fn span(msb: u128, lsb: u128) -> u32
+    requires descends { lsb ≤ msb }
+    requires within { msb < lsb + 128 }
+    ensures { result ≡ span msb lsb }
+{
+    (msb - lsb + 1) as u32
+}
+
+// How far a bit is from the lowest one.
+fn offset(lsb: u128, low: u32) -> u32
+    requires above { low ≤ lsb }
+    requires within { lsb < low + 128 }
+    ensures { result ≡ lsb - low }
+{
+    (lsb - low as u128) as u32
+}
+
+/// A part of a vector, whose bounds descend within the declared range (5.2.1).
+pub fn part(names: &Names, ident: &Ident, msb: u128, lsb: u128) -> Open
+    requires above { (entry_of names.now ident.now.name).low ≤ lsb }
+    requires descends { lsb ≤ msb }
+    requires within { msb < (entry_of names.now ident.now.name).low + (entry_of names.now ident.now.name).width }
+    ensures { sense_in result names.now ≡ read_part (entry_of names.now ident.now.name) msb lsb }
+{
+    let known = names.known(&ident.name);
+    let width = span(msb, lsb);
+    let low = offset(lsb, known.low);
+    leaf(width, false, bits(known.number, ident.at, low, width))
 }
 
 // A word of this width and value.

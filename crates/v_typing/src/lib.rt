@@ -2,12 +2,12 @@
 //! 1364-2005, 5.4 and 5.5).
 //!
 //! It stands on `v_meaning`, whose meaning of expressions it keeps, on `v_core`, whose typed expressions it makes, on
-//! `v_numbers` and on `v_names`. Promised is: `opened` gives an open expression with the own width and sign of the source's
-//! and with its value at each final width and sign, in each view, as the definitions do; and `own` the typed one where the
-//! expression determines its width itself. Parts of vectors and replications can't be opened yet.
+//! `v_constants`, which gives the values of bounds and counts, on `v_numbers` and on `v_names`. Promised is: `opened` gives
+//! for each sound expression an open one with its own width and sign and with its value at each final width and sign, in
+//! each view, as the definitions do; and `own` the typed one where the expression determines its width itself.
 #![tactic(auto)]
 
-mod classes;
+mod bounds;
 mod leaves;
 mod opening;
 mod operators;

@@ -2,9 +2,11 @@ ghost use Rattle.std.specs.Prelude.{◌≡◌, ◌+◌, ◌≤◌, IfOk, true, n
 ghost use Rattle.v_meaning.specs.Senses.{chained, joined};
 ghost use Rattle.v_meaning.specs.Expressions.{sense_of};
 ghost use Rattle.v_core.specs.Bodies.{sense_in};
+ghost use Rattle.v_meaning.specs.Proper.{is_sound};
 ghost use Rattle.v_typing.specs.Meanings.{meanings, link_meanings};
-ghost use Rattle.v_typing.specs.Fit.{is_fit, are_fit, links_fit};
+ghost use Rattle.v_typing.specs.Sound.{all_sound, links_sound};
 
+use crate::bounds::{part_between, repeated};
 use crate::leaves::{name, number, selected};
 use crate::operators::{chosen, leaf, operated, own, prefixed, recast};
 use lz_base::{Items, OutOfMemory};
@@ -15,11 +17,11 @@ use v_numbers::literal;
 use v_syntax::{BinaryOperator, Expr};
 
 /// The expression with its own width and sign, and what it is at each final width and sign (IEEE Std 1364-2005, 5.4 and
-/// 5.5). Its numbers have their form and its concatenations at most 128 bits, and it holds neither parts of vectors nor
-/// replications, which can't be opened yet. Each node is visited once. `OutOfMemory` is the only other answer.
+/// 5.5). It is sound: its numbers have their form, its concatenations and replications 1 to 128 bits, and its counts and
+/// bounds are proper. Each node is visited once. `OutOfMemory` is the only other answer.
 #[cycle(opening)]
 pub fn opened(alloc: Global, names: &Names, sites: &Sites, x: &Expr) -> Result<Open, OutOfMemory>
-    requires fit { is_fit names.now sites.now x.now ≡ true }
+    requires sound { is_sound names.now x.now ≡ true }
     ensures { IfOk result (λ o. sense_in o names.now ≡ sense_of names.now sites.now x.now) }
 {
     match x {
@@ -56,8 +58,15 @@ pub fn opened(alloc: Global, names: &Names, sites: &Sites, x: &Expr) -> Result<O
             let o = recast(alloc, *sign, x)?;
             Ok(o)
         }
-        Expr::Part { .. } => unreachable!(),
-        Expr::Replicate { .. } => unreachable!(),
+        Expr::Part { name, msb, lsb, .. } => {
+            let o = part_between(alloc, names, name, msb.get(), lsb.get())?;
+            Ok(o)
+        }
+        Expr::Replicate { count, parts, .. } => {
+            let word = joined(alloc, names, sites, parts.as_slice())?;
+            let o = repeated(alloc, names, count.get(), word)?;
+            Ok(o)
+        }
     }
 }
 
@@ -70,7 +79,7 @@ fn chained(
     first: Open,
     links: &[(BinaryOperator, Expr)],
 ) -> Result<Open, OutOfMemory>
-    requires fit { links_fit names.now sites.now links.now ≡ true }
+    requires sound { links_sound names.now links.now ≡ true }
     ensures { IfOk result (λ o. sense_in o names.now ≡ chained (sense_in first names.now) (link_meanings names.now sites.now links.now)) }
 {
     let mut all = first;
@@ -92,7 +101,7 @@ fn wider(width: u32, more: u32) -> u32
 // Operands side by side.
 #[cycle(opening)]
 fn joined(alloc: Global, names: &Names, sites: &Sites, parts: &[Expr]) -> Result<Open, OutOfMemory>
-    requires fit { are_fit names.now sites.now parts.now ≡ true }
+    requires sound { all_sound names.now parts.now ≡ true }
     requires narrow { nat_le (joined (meanings names.now sites.now parts.now)).width 128 ≡ true }
     ensures { IfOk result (λ o. sense_in o names.now ≡ joined (meanings names.now sites.now parts.now)) }
 {

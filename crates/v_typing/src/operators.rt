@@ -1,11 +1,11 @@
-ghost use Rattle.std.specs.Prelude.{◌≡◌, ◌&&◌, max, IfOk};
-ghost use Rattle.v_meaning.specs.Senses.{own, leaf, by_class, Shared, Compared, Shifted, Logical, operated, prefixed, chosen, recast};
+ghost use Rattle.std.specs.Prelude.{◌≡◌, ◌≤◌, ◌*◌, ◌&&◌, max, IfOk};
+ghost use Rattle.v_meaning.specs.Senses.{own, leaf, by_class, Shared, Compared, Shifted, Logical, operated, prefixed, chosen, replicated, recast};
 ghost use Rattle.v_core.specs.Values.{typed_value};
 ghost use Rattle.v_core.specs.Bodies.{body_value, sense_in};
 
-use crate::classes::{Class, class_of, is_signed, is_through};
 use lz_base::{Boxed, OutOfMemory};
 use std::alloc::Global;
+use v_constants::{Class, class_of, is_signed, is_through};
 use v_core::{Body, Link, Open, Typed, body_linked, fix, fix_before, linked};
 use v_syntax::{BinaryOperator, Cast, UnaryOperator};
 
@@ -161,4 +161,17 @@ pub fn recast(alloc: Global, sign: Cast, x: Open) -> Result<Open, OutOfMemory>
     let width = x.width;
     let t = own(alloc, x)?;
     Ok(leaf(width, is_signed(sign), t))
+}
+
+/// So many copies of an operand side by side (5.1.14).
+pub fn replicated(alloc: Global, count: u128, x: Open) -> Result<Open, OutOfMemory>
+    requires few { count ≤ 128 }
+    requires room { count * x.width ≤ 128 }
+    ensures { IfOk result (λ o. sense_in o ≡ (λ names. replicated count (sense_in x names))) }
+{
+    let count = count as u32;
+    let width = x.width;
+    let t = own(alloc, x)?;
+    let t = v_core::copied(alloc, count, width, t)?;
+    Ok(leaf(count * width, false, t))
 }

@@ -2,17 +2,20 @@ use denote.Param.Weighed.{most, at_most}
 use Rattle.std.proofs.Common.{arith, ap, ◌∙◌}
 use Rattle.v_meaning.specs.Expressions.{number_sense, open_at}
 use Rattle.v_meaning.specs.declared.literal.Literal.{Literal}
+use Rattle.v_meaning.specs.Proper.{is_sound}
+use Rattle.v_syntax.specs.declared.expr.Expr.{Expr}
+use Rattle.v_syntax.specs.declared.expr.BinaryOperator.{BinaryOperator}
 use Rattle.v_syntax.proofs.expr.Expr.TheLaws.{the_size}
-use Rattle.v_typing.proofs.Variants.{when_number, when_name, when_select, when_unary, when_cast, when_conditional, when_chain, when_concat}
-use Rattle.v_typing.proofs.FitLaws.{fit_number, fit_select, fit_unary, fit_cast, fit_condition, fit_then, fit_otherwise, fit_first, fit_links, fit_parts, fit_width, no_part, no_replicate}
+use Rattle.v_typing.proofs.Variants.{when_number, when_name, when_select, when_unary, when_cast, when_conditional, when_chain, when_concat, when_part, when_replicate}
+use Rattle.v_typing.proofs.SoundLaws.{sound_number, sound_select, sound_unary, sound_cast, sound_condition, sound_then, sound_otherwise, sound_first, sound_links, sound_parts, sound_narrow, sound_count, sound_room, sound_inner, sound_inner_narrow, sound_part}
 use Rattle.v_core.specs.Values.{Value}
-use Rattle.v_typing.proofs.Depths.{link_size, select_deeper, unary_deeper, cast_deeper, condition_deeper, then_deeper, otherwise_deeper, first_deeper, links_deeper, parts_deeper}
-use Rattle.v_typing.proofs.Turns.{chained_next, link_fit, more_links_fit, joined_next, part_fit, more_parts_fit, room, joined_done}
+use Rattle.v_typing.proofs.Depths.{link_size, select_deeper, unary_deeper, cast_deeper, condition_deeper, then_deeper, otherwise_deeper, first_deeper, links_deeper, parts_deeper, inner_deeper}
+use Rattle.v_typing.proofs.Turns.{this_passes, others_pass, chained_next, joined_next, room, joined_done}
 use Rattle.v_typing.proofs.OperatorLaws.{Meaning}
 use Rattle.v_typing.proofs.opening.+opening.Goals as goal
 
 pub opened-literal-requires : goal.opened-literal-requires
-opened-literal-requires t c = fit_number c.args.names.now c.args.sites.now c.args.x.now _ c.in-Number.is c.requires.fit
+opened-literal-requires t c = sound_number c.args.names.now c.args.x.now _ c.in-Number.is c.requires.sound
 
 pub opened-returns-in-Number : goal.opened-returns-in-Number
 opened-returns-in-Number t c = ap (λ (f : Meaning). f c.args.names.now) c.number.ensures ∙ ap (λ (l : Literal). number_sense l (open_at c.args.sites.now c.in-Number.n.at)) c.literal.ensures.value ∙ when_number c.args.names.now c.args.sites.now c.args.x.now _ c.in-Number.is
@@ -38,60 +41,73 @@ opened-returns-in_ok-o-in-Concat t c = c.in_ok-o-in-Concat.ensures ∙ when_conc
 pub opened-returns-in_ok-o-in-Cast : goal.opened-returns-in_ok-o-in-Cast
 opened-returns-in_ok-o-in-Cast t c = ap (λ (f : Meaning). f c.args.names.now) c.in_ok-o-in-Cast.ensures ∙ when_cast c.args.names.now c.args.sites.now c.args.x.now _ _ _ _ c.in-Cast.is c.get-in-Cast.ensures c.in_ok-x-in-Cast.ensures
 
-pub opened-unreachable-requires : goal.opened-unreachable-requires
-opened-unreachable-requires t c = no_part c.args.names.now c.args.sites.now c.args.x.now _ _ _ _ _ _ c.in-Part.is c.requires.fit
-
-pub opened-unreachable-unreachable : goal.opened-unreachable-unreachable
-opened-unreachable-unreachable t c = no_part c.args.names.now c.args.sites.now c.args.x.now _ _ _ _ _ _ c.in-Part.is c.requires.fit
-
-pub opened-unreachable-requires-in-Replicate : goal.opened-unreachable-requires-in-Replicate
-opened-unreachable-requires-in-Replicate t c = no_replicate c.args.names.now c.args.sites.now c.args.x.now _ _ _ _ _ c.in-Replicate.is c.requires.fit
-
-pub opened-unreachable-unreachable-in-Replicate : goal.opened-unreachable-unreachable-in-Replicate
-opened-unreachable-unreachable-in-Replicate t c = no_replicate c.args.names.now c.args.sites.now c.args.x.now _ _ _ _ _ c.in-Replicate.is c.requires.fit
-
 pub chained-loop-operator-preserved : goal.chained-loop-operator-preserved
-chained-loop-operator-preserved t c = (chained_next c.args.names.now c.args.sites.now _ _ _ _ c.args.links.now _ _ c.loop-operator-test.true c.loop-operator-item.is c.in_ok-y.ensures (ap (λ (f : Meaning). f c.args.names.now) c.in_ok-all.ensures) c.loop-operator.invariant.0, more_links_fit c.args.names.now c.args.sites.now c.args.links.now _ _ c.loop-operator-test.true c.loop-operator-item.is c.loop-operator.invariant.1)
+chained-loop-operator-preserved t c = (chained_next c.args.names.now c.args.sites.now _ _ _ _ c.args.links.now _ _ c.loop-operator-test.true c.loop-operator-item.is c.in_ok-y.ensures (ap (λ (f : Meaning). f c.args.names.now) c.in_ok-all.ensures) c.loop-operator.invariant.0, others_pass (λ (link : BinaryOperator × Expr). is_sound c.args.names.now link.1) c.args.links.now _ _ c.loop-operator-test.true c.loop-operator-item.is c.loop-operator.invariant.1)
 
 pub joined-wider-width-requires : goal.joined-wider-width-requires
 joined-wider-width-requires t c = room c.args.names.now c.args.sites.now c.args.parts.now _ _ _ c.loop-x.typed _ _ c.loop-x-test.true c.x-item.is c.in_ok-one.ensures c.loop-x.invariant.0 c.requires.narrow
 
 pub joined-loop-x-preserved : goal.joined-loop-x-preserved
 joined-loop-x-preserved t c =
-    rw c.wider-width.ensures (joined_next c.args.names.now c.args.sites.now c.args.parts.now _ _ _ c.loop-x.typed _ _ _ _ c.loop-x-test.true c.x-item.is c.in_ok-one.ensures c.in_ok-push.ensures.ok (ap (λ (f : Value). f c.args.names.now) c.in_ok-t.ensures) c.loop-x.invariant.0, more_parts_fit c.args.names.now c.args.sites.now c.args.parts.now _ _ c.loop-x-test.true c.x-item.is c.loop-x.invariant.1)
+    rw c.wider-width.ensures (joined_next c.args.names.now c.args.sites.now c.args.parts.now _ _ _ c.loop-x.typed _ _ _ _ c.loop-x-test.true c.x-item.is c.in_ok-one.ensures c.in_ok-push.ensures.ok (ap (λ (f : Value). f c.args.names.now) c.in_ok-t.ensures) c.loop-x.invariant.0, others_pass (is_sound c.args.names.now) c.args.parts.now _ _ c.loop-x-test.true c.x-item.is c.loop-x.invariant.1)
 
 pub joined-returns : goal.joined-returns
 joined-returns t c = joined_done c.args.names.now c.args.sites.now c.args.parts.now _ _ c.loop-x.typed _ _ _ c.loop-x-test.false c.leaf.ensures c.side_by_side.ensures c.loop-x.invariant.0
 
 pub opened-opened-requires : goal.opened-opened-requires
-opened-opened-requires t c = (omega (arith, ap the_size c.in-Select.is, select_deeper c.in-Select.name c.in-Select.bracket c.in-Select.index, ap the_size c.get.ensures), fit_select c.args.names.now c.args.sites.now c.args.x.now _ _ _ _ c.in-Select.is c.get.ensures c.requires.fit)
+opened-opened-requires t c = (omega (arith, ap the_size c.in-Select.is, select_deeper c.in-Select.name c.in-Select.bracket c.in-Select.index, ap the_size c.get.ensures), sound_select c.args.names.now c.args.x.now _ _ _ _ c.in-Select.is c.get.ensures c.requires.sound)
 
 pub opened-opened-requires-in-Unary : goal.opened-opened-requires-in-Unary
-opened-opened-requires-in-Unary t c = (omega (arith, ap the_size c.in-Unary.is, unary_deeper c.in-Unary.operator c.in-Unary.x, ap the_size c.get-in-Unary.ensures), fit_unary c.args.names.now c.args.sites.now c.args.x.now _ _ _ c.in-Unary.is c.get-in-Unary.ensures c.requires.fit)
+opened-opened-requires-in-Unary t c = (omega (arith, ap the_size c.in-Unary.is, unary_deeper c.in-Unary.operator c.in-Unary.x, ap the_size c.get-in-Unary.ensures), sound_unary c.args.names.now c.args.x.now _ _ _ c.in-Unary.is c.get-in-Unary.ensures c.requires.sound)
 
 pub opened-opened-requires-in-Chain : goal.opened-opened-requires-in-Chain
-opened-opened-requires-in-Chain t c = (omega (arith, ap the_size c.in-Chain.is, first_deeper c.in-Chain.first c.in-Chain.links, ap the_size c.get-in-Chain.ensures), fit_first c.args.names.now c.args.sites.now c.args.x.now _ _ _ c.in-Chain.is c.get-in-Chain.ensures c.requires.fit)
+opened-opened-requires-in-Chain t c = (omega (arith, ap the_size c.in-Chain.is, first_deeper c.in-Chain.first c.in-Chain.links, ap the_size c.get-in-Chain.ensures), sound_first c.args.names.now c.args.x.now _ _ _ c.in-Chain.is c.get-in-Chain.ensures c.requires.sound)
 
 pub opened-opened-requires-in-Conditional : goal.opened-opened-requires-in-Conditional
-opened-opened-requires-in-Conditional t c = (omega (arith, ap the_size c.in-Conditional.is, condition_deeper c.in-Conditional.c c.in-Conditional.x c.in-Conditional.y, ap the_size c.get-in-Conditional.ensures), fit_condition c.args.names.now c.args.sites.now c.args.x.now _ _ _ _ c.in-Conditional.is c.get-in-Conditional.ensures c.requires.fit)
+opened-opened-requires-in-Conditional t c = (omega (arith, ap the_size c.in-Conditional.is, condition_deeper c.in-Conditional.c c.in-Conditional.x c.in-Conditional.y, ap the_size c.get-in-Conditional.ensures), sound_condition c.args.names.now c.args.x.now _ _ _ _ c.in-Conditional.is c.get-in-Conditional.ensures c.requires.sound)
 
 pub opened-opened-requires-in-Conditional-2 : goal.opened-opened-requires-in-Conditional-2
-opened-opened-requires-in-Conditional-2 t c = (omega (arith, ap the_size c.in-Conditional.is, then_deeper c.in-Conditional.c c.in-Conditional.x c.in-Conditional.y, ap the_size c.get-in-Conditional-2.ensures), fit_then c.args.names.now c.args.sites.now c.args.x.now _ _ _ _ c.in-Conditional.is c.get-in-Conditional-2.ensures c.requires.fit)
+opened-opened-requires-in-Conditional-2 t c = (omega (arith, ap the_size c.in-Conditional.is, then_deeper c.in-Conditional.c c.in-Conditional.x c.in-Conditional.y, ap the_size c.get-in-Conditional-2.ensures), sound_then c.args.names.now c.args.x.now _ _ _ _ c.in-Conditional.is c.get-in-Conditional-2.ensures c.requires.sound)
 
 pub opened-opened-requires-in-Conditional-3 : goal.opened-opened-requires-in-Conditional-3
-opened-opened-requires-in-Conditional-3 t c = (omega (arith, ap the_size c.in-Conditional.is, otherwise_deeper c.in-Conditional.c c.in-Conditional.x c.in-Conditional.y, ap the_size c.get-in-Conditional-3.ensures), fit_otherwise c.args.names.now c.args.sites.now c.args.x.now _ _ _ _ c.in-Conditional.is c.get-in-Conditional-3.ensures c.requires.fit)
+opened-opened-requires-in-Conditional-3 t c = (omega (arith, ap the_size c.in-Conditional.is, otherwise_deeper c.in-Conditional.c c.in-Conditional.x c.in-Conditional.y, ap the_size c.get-in-Conditional-3.ensures), sound_otherwise c.args.names.now c.args.x.now _ _ _ _ c.in-Conditional.is c.get-in-Conditional-3.ensures c.requires.sound)
 
 pub opened-opened-requires-in-Cast : goal.opened-opened-requires-in-Cast
-opened-opened-requires-in-Cast t c = (omega (arith, ap the_size c.in-Cast.is, cast_deeper c.in-Cast.sign c.in-Cast.x, ap the_size c.get-in-Cast.ensures), fit_cast c.args.names.now c.args.sites.now c.args.x.now _ _ _ c.in-Cast.is c.get-in-Cast.ensures c.requires.fit)
+opened-opened-requires-in-Cast t c = (omega (arith, ap the_size c.in-Cast.is, cast_deeper c.in-Cast.sign c.in-Cast.x, ap the_size c.get-in-Cast.ensures), sound_cast c.args.names.now c.args.x.now _ _ _ c.in-Cast.is c.get-in-Cast.ensures c.requires.sound)
 
 pub opened-chained-requires : goal.opened-chained-requires
-opened-chained-requires t c = (omega (arith, ap the_size c.in-Chain.is, links_deeper c.in-Chain.first c.in-Chain.links, ap (most link_size) c.as_slice.ensures), fit_links c.args.names.now c.args.sites.now c.args.x.now _ _ _ c.in-Chain.is c.as_slice.ensures c.requires.fit)
+opened-chained-requires t c = (omega (arith, ap the_size c.in-Chain.is, links_deeper c.in-Chain.first c.in-Chain.links, ap (most link_size) c.as_slice.ensures), sound_links c.args.names.now c.args.x.now _ _ _ c.in-Chain.is c.as_slice.ensures c.requires.sound)
 
 pub opened-joined-requires : goal.opened-joined-requires
-opened-joined-requires t c = (omega (arith, ap the_size c.in-Concat.is, parts_deeper c.in-Concat.brace c.in-Concat.parts, ap (most the_size) c.as_slice-in-Concat.ensures), (fit_parts c.args.names.now c.args.sites.now c.args.x.now _ _ _ c.in-Concat.is c.as_slice-in-Concat.ensures c.requires.fit, fit_width c.args.names.now c.args.sites.now c.args.x.now _ _ _ c.in-Concat.is c.as_slice-in-Concat.ensures c.requires.fit))
+opened-joined-requires t c = (omega (arith, ap the_size c.in-Concat.is, parts_deeper c.in-Concat.brace c.in-Concat.parts, ap (most the_size) c.as_slice-in-Concat.ensures), (sound_parts c.args.names.now c.args.x.now _ _ _ c.in-Concat.is c.as_slice-in-Concat.ensures c.requires.sound, sound_narrow c.args.names.now c.args.sites.now c.args.x.now _ _ _ c.in-Concat.is c.as_slice-in-Concat.ensures c.requires.sound))
 
 pub chained-opened-requires : goal.chained-opened-requires
-chained-opened-requires t c = (omega (arith, at_most link_size c.args.links.now c.loop-operator.operator-index c.loop-operator-item.result c.loop-operator-test.true, ap link_size c.loop-operator-item.is), link_fit c.args.names.now c.args.sites.now c.args.links.now _ _ c.loop-operator-test.true c.loop-operator-item.is c.loop-operator.invariant.1)
+chained-opened-requires t c = (omega (arith, at_most link_size c.args.links.now c.loop-operator.operator-index c.loop-operator-item.result c.loop-operator-test.true, ap link_size c.loop-operator-item.is), this_passes (λ (link : BinaryOperator × Expr). is_sound c.args.names.now link.1) c.args.links.now _ _ c.loop-operator-test.true c.loop-operator-item.is c.loop-operator.invariant.1)
 
 pub joined-opened-requires : goal.joined-opened-requires
-joined-opened-requires t c = (omega (arith, at_most the_size c.args.parts.now c.loop-x.x-index c.x-item.result c.loop-x-test.true, ap the_size c.x-item.is), part_fit c.args.names.now c.args.sites.now c.args.parts.now _ _ c.loop-x-test.true c.x-item.is c.loop-x.invariant.1)
+joined-opened-requires t c = (omega (arith, at_most the_size c.args.parts.now c.loop-x.x-index c.x-item.result c.loop-x-test.true, ap the_size c.x-item.is), this_passes (is_sound c.args.names.now) c.args.parts.now _ _ c.loop-x-test.true c.x-item.is c.loop-x.invariant.1)
+
+pub opened-part_between-requires : goal.opened-part_between-requires
+opened-part_between-requires t c = record { bounds = sound_part c.args.names.now c.args.x.now _ _ _ _ _ _ _ _ c.in-Part.is c.get-in-Part.ensures c.get-in-Part-2.ensures c.requires.sound }
+
+pub opened-returns-in_ok-o-in-Part : goal.opened-returns-in_ok-o-in-Part
+opened-returns-in_ok-o-in-Part t c = c.in_ok-o-in-Part.ensures ∙ when_part c.args.names.now c.args.sites.now c.args.x.now _ _ _ _ _ _ _ _ c.in-Part.is c.get-in-Part.ensures c.get-in-Part-2.ensures
+
+pub opened-joined-requires-in-Replicate : goal.opened-joined-requires-in-Replicate
+opened-joined-requires-in-Replicate t c = (
+  omega (arith, ap the_size c.in-Replicate.is, inner_deeper c.in-Replicate.brace c.in-Replicate.count_at c.in-Replicate.count c.in-Replicate.inner_brace c.in-Replicate.parts, ap (most the_size) c.as_slice-in-Replicate.ensures),
+  (
+    sound_inner c.args.names.now c.args.x.now _ _ _ _ _ _ c.in-Replicate.is c.as_slice-in-Replicate.ensures c.requires.sound,
+    sound_inner_narrow c.args.names.now c.args.sites.now c.args.x.now _ _ _ _ _ _ c.in-Replicate.is c.as_slice-in-Replicate.ensures c.requires.sound,
+  ),
+)
+
+pub opened-repeated-requires : goal.opened-repeated-requires
+opened-repeated-requires t c = record {
+  counted = sound_count c.args.names.now c.args.x.now _ _ _ _ _ _ c.in-Replicate.is c.get-in-Replicate.ensures c.requires.sound;
+  room = sound_room c.args.names.now c.args.sites.now c.args.x.now _ _ _ _ _ _ _ _ c.in-Replicate.is c.get-in-Replicate.ensures c.as_slice-in-Replicate.ensures c.in_ok-word-in-Replicate.ensures c.requires.sound;
+}
+
+pub opened-returns-in_ok-o-in-Replicate : goal.opened-returns-in_ok-o-in-Replicate
+opened-returns-in_ok-o-in-Replicate t c =
+    c.in_ok-o-in-Replicate.ensures ∙ when_replicate c.args.names.now c.args.sites.now c.args.x.now _ _ _ _ _ _ _ _ c.in-Replicate.is c.get-in-Replicate.ensures c.as_slice-in-Replicate.ensures c.in_ok-word-in-Replicate.ensures

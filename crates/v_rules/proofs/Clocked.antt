@@ -19,22 +19,22 @@ combinational_step : (names : List Entry) (item : Item) (items : List Item) → 
 combinational_step names item items = filter-append (λ (p : ProcessUse). not (is_clocked p)) (item_process_uses names item) (flat_map (item_process_uses names) items)
 
 none_in : (names : List Entry) (item : Item) → is_combinational item ≡ false → filter (λ (p : ProcessUse). not (is_clocked p)) (item_process_uses names item) ≡ []
-none_in names (i.Parameters group) no = refl
-none_in names (i.LocalParameters group) no = refl
-none_in names (i.Wires signed range nets) no = refl
-none_in names (i.Regs signed range variables) no = refl
-none_in names (i.Assigns settings) no = refl
-none_in names (i.Always (w.Posedge name) body) no = refl
-none_in names (i.Always w.Any body) no = absurd (cc no)
+none_in names (i.Parameters group) not_one = refl
+none_in names (i.LocalParameters group) not_one = refl
+none_in names (i.Wires signed range nets) not_one = refl
+none_in names (i.Regs signed range variables) not_one = refl
+none_in names (i.Assigns settings) not_one = refl
+none_in names (i.Always (w.Posedge name) body) not_one = refl
+none_in names (i.Always w.Any body) not_one = absurd (cc not_one)
 
 some_in : (names : List Entry) (item : Item) (items : List Item) → is_combinational item ≡ true → combinational_in names (item ∷ items) ≡ [] → ⊥
-some_in names (i.Parameters group) items yes none = absurd (cc yes)
-some_in names (i.LocalParameters group) items yes none = absurd (cc yes)
-some_in names (i.Wires signed range nets) items yes none = absurd (cc yes)
-some_in names (i.Regs signed range variables) items yes none = absurd (cc yes)
-some_in names (i.Assigns settings) items yes none = absurd (cc yes)
-some_in names (i.Always (w.Posedge name) body) items yes none = absurd (cc yes)
-some_in names (i.Always w.Any body) items yes none = cc none
+some_in names (i.Parameters group) items one none = absurd (cc one)
+some_in names (i.LocalParameters group) items one none = absurd (cc one)
+some_in names (i.Wires signed range nets) items one none = absurd (cc one)
+some_in names (i.Regs signed range variables) items one none = absurd (cc one)
+some_in names (i.Assigns settings) items one none = absurd (cc one)
+some_in names (i.Always (w.Posedge name) body) items one none = absurd (cc one)
+some_in names (i.Always w.Any body) items one none = cc none
 
 -- The combinational processes from this item on are all.
 pub record AllFrom (names : List Entry) (items : List Item) (index : ℕ) : Type 0 where
@@ -42,16 +42,16 @@ pub record AllFrom (names : List Entry) (items : List Item) (index : ℕ) : Type
 
 pub none_next : (names : List Entry) (items : List Item) (index : ℕ) (item other : Item) (test : Bool) → index < length items → item ≡ get_or items index other → test ≡ is_combinational item → test ≡ false → AllFrom names items index →
     AllFrom names items (index + 1)
-none_next names items index item other test h is t no g = record {
-  same = sym (ap (λ l. l ++ combinational_in names (drop (index + 1) items)) (none_in names item (sym t ∙ no)))
+none_next names items index item other test h is t not_one g = record {
+  same = sym (ap (λ l. l ++ combinational_in names (drop (index + 1) items)) (none_in names item (sym t ∙ not_one)))
       ∙ sym (combinational_step names item (drop (index + 1) items)) ∙ sym (ap (combinational_in names) (next_is items index item other h is)) ∙ g.same;
 }
 
 pub some_found : (names : List Entry) (m : Module) (items : List Item) (index : ℕ) (item other : Item) (test : Bool) → items ≡ m.items → index < length items → item ≡ get_or items index other → test ≡ is_combinational item → test ≡ true →
     AllFrom names items index → IsTrue false ↔ (combinational_of (uses_of names m) ≡ [])
-some_found names m items index item other test sliced h is t yes g = (
+some_found names m items index item other test sliced h is t one g = (
   λ t. absurd (cc t),
-  λ none. absurd (some_in names item (drop (index + 1) items) (sym t ∙ yes) (sym (ap (combinational_in names) (next_is items index item other h is)) ∙ g.same ∙ ap (combinational_in names) sliced ∙ none)),
+  λ none. absurd (some_in names item (drop (index + 1) items) (sym t ∙ one) (sym (ap (combinational_in names) (next_is items index item other h is)) ∙ g.same ∙ ap (combinational_in names) sliced ∙ none)),
 )
 
 pub none_found : (names : List Entry) (m : Module) (items : List Item) (index : ℕ) → items ≡ m.items → length items ≤ index → AllFrom names items index → IsTrue true ↔ (combinational_of (uses_of names m) ≡ [])

@@ -1,5 +1,5 @@
 -- What was gathered of a module is what the definition of its uses has.
-use Rattle.std.proofs.Common.{◌≡◌, ◌≤◌, ℕ, length, take, take_all, List, [], ◌∷◌, ◌++◌, map, flat_map, cond, Bool, true, false, Bor, refl, sym, ap, ◌∙◌}
+use Rattle.std.proofs.Common.{◌≡◌, ◌≤◌, ◌<◌, ◌+◌, ℕ, length, take, take_all, drop, get_or, List, [], ◌∷◌, ◌++◌, map, flat_map, cond, Bool, true, false, Bor, refl, sym, ap, ◌∙◌}
 use Rattle.std.proofs.lemmas.List.{map-append}
 use Rattle.std.proofs.lemmas.List.Folds.{flat_map-map}
 use Rattle.std.proofs.lemmas.Simd.{map-map}
@@ -17,16 +17,17 @@ use Rattle.v_uses.specs.declared.gathered.ProcessUses.{ProcessUses}
 use Rattle.v_uses.specs.declared.gathered.Uses.{Uses}
 use Rattle.v_uses.specs.Gathered.{written_in, assign_in, process_in, uses_in}
 use Rattle.v_rules.specs.Groups.{idents_in, targets_in, blocking_in, names_of_event}
+use Rattle.v_rules.proofs.Rounds.{gathered}
 
 map_flat : {X A B : Type 0} (v : A → B) (f : X → List A) (xs : List X) → map v (flat_map f xs) ≡ flat_map (λ x. map v (f x)) xs
 map_flat v f [] = refl
 map_flat v f (x ∷ xs) = map-append v (f x) (flat_map f xs) ∙ ap (λ l. map v (f x) ++ l) (map_flat v f xs)
 
 -- lists of lists that look the same from both sides
-flat_same : {X Y S A B : Type 0} (v : A → B) (f : X → List A) (left : X → S) (right : Y → S) (h : S → List B) (xs : List X) (ys : List Y) → (λ x. map v (f x)) ≡ (λ x. h (left x)) → map left xs ≡ map right ys →
+flat_same : {X Y S A B : Type 0} (v : A → B) (f : X → List A) (left : X → S) (right : Y → S) (h : S → List B) (xs : List X) (ys : List Y) → flat_map (λ x. map v (f x)) xs ≡ flat_map (λ x. h (left x)) xs → map left xs ≡ map right ys →
     map v (flat_map f xs) ≡ flat_map (λ y. h (right y)) ys
 flat_same v f left right h xs ys same seen =
-    map_flat v f xs ∙ ap (λ k. flat_map k xs) same ∙ sym (flat_map-map h left xs) ∙ ap (flat_map h) seen ∙ flat_map-map h right ys
+    map_flat v f xs ∙ same ∙ sym (flat_map-map h left xs) ∙ ap (flat_map h) seen ∙ flat_map-map h right ys
 
 pub assign_targets_are : (uses : Uses) (u : m.Uses) (xs : List AssignUses) (ns : List (Bor Ident)) → xs ≡ uses.assigns → ns ≡ map (λ (x : AssignUses). x.target) xs → uses_in uses ≡ seen_of u → idents_in ns ≡ assign_targets u
 assign_targets_are uses u xs ns sliced is seen =
@@ -87,6 +88,12 @@ pushed old new n is = ap idents_in is ∙ map-append (λ (n : Bor Ident). n.now)
 
 -- ---- blocking writes
 
-pub blocking_step : (name : Ident) (kind : AssignKind) (ws : List Written) → blocking_in (record { name = name; kind = kind } ∷ ws) ≡ blocking_in (record { name = name; kind = kind } ∷ []) ++ blocking_in ws
+blocking_step : (name : Ident) (kind : AssignKind) (ws : List Written) → blocking_in (record { name = name; kind = kind } ∷ ws) ≡ blocking_in (record { name = name; kind = kind } ∷ []) ++ blocking_in ws
 blocking_step name a.Blocking ws = refl
 blocking_step name a.Nonblocking ws = refl
+
+-- the next write of all
+pub blocking_next : (ws : List Write) (i : ℕ) (w other : Write) (old new whole : List Ident) → i < length ws → w ≡ get_or ws i other → new ≡ old ++ blocking_in (written_in w ∷ []) → old ++ blocking_in (map written_in (drop i ws)) ≡ whole →
+    new ++ blocking_in (map written_in (drop (i + 1) ws)) ≡ whole
+blocking_next ws i w other old new whole h is more same =
+    gathered (λ vs. blocking_in (map written_in vs)) (λ vs. blocking_in (map written_in vs)) ws i w other (blocking_in (written_in w ∷ [])) old new whole h is (blocking_step w.name.now w.kind (map written_in (drop (i + 1) ws))) more same

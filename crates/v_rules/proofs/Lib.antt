@@ -3,6 +3,6 @@ pub mod Gathered
 pub mod Sets
 pub mod Written
 pub mod Shared
-pub mod Clock
+pub mod Nets
 pub mod Clocked
 pub mod Rules

@@ -9,8 +9,8 @@ use Rattle.lz_base.specs.Names.{is_among}
 -- ---- names among others
 
 -- a test of a name's bytes
-pub tested : (key name : List ℕ) (yes : Bool) (names : List (List ℕ)) → key ≡ name → yes ≡ is_among key names → yes ≡ is_among name names
-tested key name yes names same is = is ∙ ap (λ k. is_among k names) same
+pub tested : (key name : List ℕ) (test : Bool) (names : List (List ℕ)) → key ≡ name → test ≡ is_among key names → test ≡ is_among name names
+tested key name test names same is = is ∙ ap (λ k. is_among k names) same
 
 swap : (a b c : Bool) → (a || (b || c)) ≡ (b || (a || c))
 swap true true c = refl
@@ -44,13 +44,13 @@ passes_too false true true rest h = absurd (true≢false (sym (h refl)))
 passes_too false true false rest h = refl
 passes_too false false same rest h = refl
 
+and_false : (b : Bool) → (b && false) ≡ false
+and_false true = refl
+and_false false = refl
+
 pub among_filter : (test : List ℕ → Bool) (q : List ℕ) (names : List (List ℕ)) → is_among q (filter test names) ≡ (test q && is_among q names)
 among_filter test q [] = sym (and_false (test q))
 among_filter test q (n ∷ names) =
     among_cond q n (test n) (filter test names)
     ∙ ap (λ b. cond (test n) (bytes_eq n q || b) b) (among_filter test q names)
     ∙ passes_too (test n) (test q) (bytes_eq n q) (is_among q names) (λ same. ap test ((bytes_eq-Decides n q).0 same))
-  where
-    and_false : (b : Bool) → (b && false) ≡ false
-    and_false true = refl
-    and_false false = refl

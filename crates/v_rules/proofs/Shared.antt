@@ -17,16 +17,16 @@ use Rattle.v_uses.specs.declared.gathered.ProcessUses.{ProcessUses}
 use Rattle.v_uses.specs.declared.gathered.Uses.{Uses}
 use Rattle.v_uses.specs.Gathered.{written_in, process_in, uses_in}
 use Rattle.v_rules.specs.Groups.{idents_in, targets_in, blocking_in, blocking_by, shared_from, is_elsewhere, elsewhere_at}
-use Rattle.v_rules.proofs.Rounds.{gathered, gathered_all, places_same}
+use Rattle.v_rules.proofs.Rounds.{gathered, gathered_all, places_same, MetSome, met_next}
 use Rattle.v_rules.proofs.Sets.{among_more, among_filter}
 
 -- ---- of each process, whether it writes a name: whether one does, and whether two do
 
-any_of : List Bool → Bool
+abbrev any_of : List Bool → Bool
 any_of [] = false
 any_of (b ∷ bs) = b || any_of bs
 
-two_of : Bool → List Bool → Bool
+abbrev two_of : Bool → List Bool → Bool
 two_of before [] = false
 two_of before (b ∷ bs) = (before && b) || two_of (before || b) bs
 
@@ -57,21 +57,21 @@ two_any true bs = or_true (two_of true bs)
 two_any false [] = refl
 two_any false (b ∷ bs) = two_any b bs
 
+and_false : (b : Bool) → (b && false) ≡ false
+and_false true = refl
+and_false false = refl
+
+and_true : (b : Bool) → (b && true) ≡ b
+and_true true = refl
+and_true false = refl
+
+or_false : (b : Bool) → (b || false) ≡ b
+or_false true = refl
+or_false false = refl
+
 others : (b : Bool) (xs ys : List Bool) → any_of (xs ++ ys) ≡ (two_of false (xs ++ b ∷ ys) || (any_of (xs ++ b ∷ ys) && not b))
 others true xs ys = sym (ap (λ x. two_of false (xs ++ true ∷ ys) || x) (and_false (any_of (xs ++ true ∷ ys))) ∙ or_false (two_of false (xs ++ true ∷ ys)) ∙ two_with false xs ys)
-  where
-    and_false : (b : Bool) → (b && false) ≡ false
-    and_false true = refl
-    and_false false = refl
-
-    or_false : (b : Bool) → (b || false) ≡ b
-    or_false true = refl
-    or_false false = refl
 others false xs ys = sym (ap (λ x. two_of false (xs ++ false ∷ ys) || x) (and_true (any_of (xs ++ false ∷ ys))) ∙ two_any false (xs ++ false ∷ ys) ∙ any_without xs ys)
-  where
-    and_true : (b : Bool) → (b && true) ≡ b
-    and_true true = refl
-    and_true false = refl
 
 abbrev bits : List ℕ → List m.ProcessUse → List Bool
 bits name ps = map (λ (p : m.ProcessUse). is_among name (blocking_by (process_seen p))) ps
@@ -208,3 +208,11 @@ pub elsewhere_ends : {E : Type 0} (r : Result (Option ℕ) E) (uses : Uses) (ps 
     IfOk r (λ first. (u : m.Uses) → uses_in uses ≡ seen_of u → combinational_of u ≡ [] → first ≡ least_from None (read_elsewhere [] (clocked_of u)))
 elsewhere_ends (Ok first) uses ps met shared sliced sets h = λ u seen clocked. elsewhere_is uses u ps first sliced seen clocked (h _ _ sets.0 sets.1)
 elsewhere_ends (Err e) uses ps met shared sliced sets h = tt
+
+-- the next name of all
+pub share_next : (before : List (List ℕ)) (ns : List (Bor Ident)) (i : ℕ) (n other : Bor Ident) (whole : List (List ℕ)) (met after : BTreeSet (Bor (List ℕ))) → i < length ns → n ≡ get_or ns i other →
+    ((names : List (List ℕ)) → Met met names → Met after (names ++ filter (λ name. is_among name before) (n.now.name ∷ []))) →
+    MetSome met (filter (λ name. is_among name before) (ident_names (idents_in (drop i ns)))) whole → MetSome after (filter (λ name. is_among name before) (ident_names (idents_in (drop (i + 1) ns)))) whole
+share_next before ns i n other whole met after h is meets g =
+    met_next (λ ms. filter (λ name. is_among name before) (ident_names (idents_in ms))) ns i n other (filter (λ name. is_among name before) (n.now.name ∷ [])) whole met after h is
+    (share_step (λ name. is_among name before) n.now.name (ident_names (idents_in (drop (i + 1) ns)))) meets g

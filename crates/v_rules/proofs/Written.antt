@@ -56,29 +56,30 @@ again_ends uses u ps i met first sliced h g seen =
 
 -- ---- one kind of assignment writes each name
 
-or_kind : Option AssignKind → AssignKind → AssignKind
+abbrev or_kind : Option AssignKind → AssignKind → AssignKind
 or_kind None kind = kind
 or_kind (Some first) kind = first
 
 first_kind_is : (ws : List Written) (w : Written) → first_kind ws w ≡ or_kind (kind_among ws w.name.name) w.kind
 first_kind_is [] w = refl
-first_kind_is (y ∷ ws) w = one (bytes_eq y.name.name w.name.name)
+first_kind_is (y ∷ ws) w = one (bytes_eq y.name.name w.name.name) (first_kind_is ws w)
   where
-    one : (same : Bool) → (if same then y.kind else first_kind ws w) ≡ or_kind (if same then Some y.kind else kind_among ws w.name.name) w.kind
-    one true = refl
-    one false = first_kind_is ws w
+    one : (same : Bool) → first_kind ws w ≡ or_kind (kind_among ws w.name.name) w.kind → (if same then y.kind else first_kind ws w) ≡ or_kind (if same then Some y.kind else kind_among ws w.name.name) w.kind
+    one true rest = refl
+    one false rest = rest
 
-later : Option AssignKind → Option AssignKind → Option AssignKind
+abbrev later : Option AssignKind → Option AssignKind → Option AssignKind
 later None more = more
 later (Some first) more = Some first
 
 kind_more : (ws : List Written) (w : Written) (name : List ℕ) → kind_among (ws ++ w ∷ []) name ≡ later (kind_among ws name) (if bytes_eq w.name.name name then Some w.kind else None)
 kind_more [] w name = refl
-kind_more (y ∷ ws) w name = one (bytes_eq y.name.name name)
+kind_more (y ∷ ws) w name = one (bytes_eq y.name.name name) (kind_more ws w name)
   where
-    one : (same : Bool) → (if same then Some y.kind else kind_among (ws ++ w ∷ []) name) ≡ later (if same then Some y.kind else kind_among ws name) (if bytes_eq w.name.name name then Some w.kind else None)
-    one true = refl
-    one false = kind_more ws w name
+    one : (same : Bool) → kind_among (ws ++ w ∷ []) name ≡ later (kind_among ws name) (if bytes_eq w.name.name name then Some w.kind else None) →
+        (if same then Some y.kind else kind_among (ws ++ w ∷ []) name) ≡ later (if same then Some y.kind else kind_among ws name) (if bytes_eq w.name.name name then Some w.kind else None)
+    one true rest = refl
+    one false rest = rest
 
 later_none : (kind : Option AssignKind) → later kind None ≡ kind
 later_none None = refl
@@ -129,21 +130,21 @@ known_kind blocking nonblocking before w kind has f = record {
 }
 
 -- its name was first written by a blocking assignment
-pub known_blocking : (blocking nonblocking : BTreeSet (Bor (List ℕ))) (before : List Written) (w : Written) (key : List ℕ) (yes is : Bool) (first more : Option ℕ) → key ≡ w.name.name →
-    ((names : List (List ℕ)) → Met blocking names → yes ≡ is_among key names) → yes ≡ true → is ≡ is_blocking w.kind → more ≡ least_from first (place_if (not is) w.name.at) → FirstKinds blocking nonblocking before →
+pub known_blocking : (blocking nonblocking : BTreeSet (Bor (List ℕ))) (before : List Written) (w : Written) (key : List ℕ) (found is : Bool) (first more : Option ℕ) → key ≡ w.name.name →
+    ((names : List (List ℕ)) → Met blocking names → found ≡ is_among key names) → found ≡ true → is ≡ is_blocking w.kind → more ≡ least_from first (place_if (not is) w.name.at) → FirstKinds blocking nonblocking before →
     NotesKind first more blocking nonblocking before w
-known_blocking blocking nonblocking before w key yes is first more name met t kind note f =
-    let has : kind_among before w.name.name ≡ Some a.Blocking = f.kinds w.name.name ∙ ap (λ b. kind_by b (is_among w.name.name f.others)) (sym (tested key w.name.name yes f.firsts name (met f.firsts f.met_firsts)) ∙ t) in
+known_blocking blocking nonblocking before w key found is first more name met t kind note f =
+    let has : kind_among before w.name.name ≡ Some a.Blocking = f.kinds w.name.name ∙ ap (λ b. kind_by b (is_among w.name.name f.others)) (sym (tested key w.name.name found f.firsts name (met f.firsts f.met_firsts)) ∙ t) in
     (place_is first more before w a.Blocking (not is) has (ap not kind ∙ sym (differ_blocking w.kind)) note, known_kind blocking nonblocking before w a.Blocking has f)
 
 -- or by a nonblocking one
-pub known_nonblocking : (blocking nonblocking : BTreeSet (Bor (List ℕ))) (before : List Written) (w : Written) (key : List ℕ) (no yes is : Bool) (first more : Option ℕ) → key ≡ w.name.name →
-    ((names : List (List ℕ)) → Met blocking names → no ≡ is_among key names) → no ≡ false → ((names : List (List ℕ)) → Met nonblocking names → yes ≡ is_among key names) → yes ≡ true →
+pub known_nonblocking : (blocking nonblocking : BTreeSet (Bor (List ℕ))) (before : List Written) (w : Written) (key : List ℕ) (unfound found is : Bool) (first more : Option ℕ) → key ≡ w.name.name →
+    ((names : List (List ℕ)) → Met blocking names → unfound ≡ is_among key names) → unfound ≡ false → ((names : List (List ℕ)) → Met nonblocking names → found ≡ is_among key names) → found ≡ true →
     is ≡ is_blocking w.kind → more ≡ least_from first (place_if is w.name.at) → FirstKinds blocking nonblocking before → NotesKind first more blocking nonblocking before w
-known_nonblocking blocking nonblocking before w key no yes is first more name unmet n met t kind note f =
+known_nonblocking blocking nonblocking before w key unfound found is first more name unmet n met t kind note f =
     let has : kind_among before w.name.name ≡ Some a.Nonblocking =
-    f.kinds w.name.name ∙ ap (λ b. kind_by b (is_among w.name.name f.others)) (sym (tested key w.name.name no f.firsts name (unmet f.firsts f.met_firsts)) ∙ n)
-    ∙ ap (kind_by false) (sym (tested key w.name.name yes f.others name (met f.others f.met_others)) ∙ t)
+    f.kinds w.name.name ∙ ap (λ b. kind_by b (is_among w.name.name f.others)) (sym (tested key w.name.name unfound f.firsts name (unmet f.firsts f.met_firsts)) ∙ n)
+    ∙ ap (kind_by false) (sym (tested key w.name.name found f.others name (met f.others f.met_others)) ∙ t)
     in
     (place_is first more before w a.Nonblocking is has (kind ∙ sym (differ_nonblocking w.kind)) note, known_kind blocking nonblocking before w a.Nonblocking has f)
 
@@ -165,13 +166,13 @@ new_kind before w firsts others name none own other = kind_more before w name �
     one true is differs = ap (λ k. later k (Some w.kind)) (sym (ap (kind_among before) (is refl)) ∙ none) ∙ sym (own (is refl))
     one false is differs = later_none (kind_among before name) ∙ sym (differs refl)
 
-pub new_blocking : (blocking nonblocking after : BTreeSet (Bor (List ℕ))) (before : List Written) (w : Written) (key : List ℕ) (no none is added : Bool) (first : Option ℕ) → key ≡ w.name.name →
-    ((names : List (List ℕ)) → Met blocking names → no ≡ is_among key names) → no ≡ false → ((names : List (List ℕ)) → Met nonblocking names → none ≡ is_among key names) → none ≡ false →
+pub new_blocking : (blocking nonblocking after : BTreeSet (Bor (List ℕ))) (before : List Written) (w : Written) (key : List ℕ) (unfound none is added : Bool) (first : Option ℕ) → key ≡ w.name.name →
+    ((names : List (List ℕ)) → Met blocking names → unfound ≡ is_among key names) → unfound ≡ false → ((names : List (List ℕ)) → Met nonblocking names → none ≡ is_among key names) → none ≡ false →
     is ≡ is_blocking w.kind → is ≡ true → ((names : List (List ℕ)) → Met blocking names → (added ≡ not (is_among key names)) × Met after (names ++ key ∷ [])) → FirstKinds blocking nonblocking before →
     NotesKind first first after nonblocking before w
-new_blocking blocking nonblocking after before w key no none is added first same unmet n unmet_too o kind t meets f =
+new_blocking blocking nonblocking after before w key unfound none is added first same unmet n unmet_too o kind t meets f =
     let own_name = w.name.name in
-    let unfirst : is_among own_name f.firsts ≡ false = sym (tested key own_name no f.firsts same (unmet f.firsts f.met_firsts)) ∙ n in
+    let unfirst : is_among own_name f.firsts ≡ false = sym (tested key own_name unfound f.firsts same (unmet f.firsts f.met_firsts)) ∙ n in
     let unother : is_among own_name f.others ≡ false = sym (tested key own_name none f.others same (unmet_too f.others f.met_others)) ∙ o in
     let missing : kind_among before own_name ≡ None = unknown blocking nonblocking before own_name f unfirst unother in
     let own : a.Blocking ≡ w.kind = sym (kind_is w.kind ∙ ap (λ b. if b then a.Blocking else a.Nonblocking) (sym kind ∙ t)) in (
@@ -187,13 +188,13 @@ new_blocking blocking nonblocking after before w key no none is added first same
       },
     )
 
-pub new_nonblocking : (blocking nonblocking after : BTreeSet (Bor (List ℕ))) (before : List Written) (w : Written) (key : List ℕ) (no none is added : Bool) (first : Option ℕ) → key ≡ w.name.name →
-    ((names : List (List ℕ)) → Met blocking names → no ≡ is_among key names) → no ≡ false → ((names : List (List ℕ)) → Met nonblocking names → none ≡ is_among key names) → none ≡ false →
+pub new_nonblocking : (blocking nonblocking after : BTreeSet (Bor (List ℕ))) (before : List Written) (w : Written) (key : List ℕ) (unfound none is added : Bool) (first : Option ℕ) → key ≡ w.name.name →
+    ((names : List (List ℕ)) → Met blocking names → unfound ≡ is_among key names) → unfound ≡ false → ((names : List (List ℕ)) → Met nonblocking names → none ≡ is_among key names) → none ≡ false →
     is ≡ is_blocking w.kind → is ≡ false → ((names : List (List ℕ)) → Met nonblocking names → (added ≡ not (is_among key names)) × Met after (names ++ key ∷ [])) → FirstKinds blocking nonblocking before →
     NotesKind first first blocking after before w
-new_nonblocking blocking nonblocking after before w key no none is added first same unmet n unmet_too o kind t meets f =
+new_nonblocking blocking nonblocking after before w key unfound none is added first same unmet n unmet_too o kind t meets f =
     let own_name = w.name.name in
-    let unfirst : is_among own_name f.firsts ≡ false = sym (tested key own_name no f.firsts same (unmet f.firsts f.met_firsts)) ∙ n in
+    let unfirst : is_among own_name f.firsts ≡ false = sym (tested key own_name unfound f.firsts same (unmet f.firsts f.met_firsts)) ∙ n in
     let unother : is_among own_name f.others ≡ false = sym (tested key own_name none f.others same (unmet_too f.others f.met_others)) ∙ o in
     let missing : kind_among before own_name ≡ None = unknown blocking nonblocking before own_name f unfirst unother in
     let own : a.Nonblocking ≡ w.kind = sym (kind_is w.kind ∙ ap (λ b. if b then a.Blocking else a.Nonblocking) (sym kind ∙ t)) in (
@@ -264,6 +265,6 @@ assigned_ends ns i met first h g = ended (λ ms. assigned_again g.before (idents
 
 pub again_step : (before : List (List ℕ)) (p : ProcessUses) (ws : List Write) (ns judged met_too : List (Bor Ident)) (met : BTreeSet (Bor (List ℕ))) (first more : Option ℕ) → ws ≡ p.writes → idents_in ns ≡ targets_in (map written_in ws) → judged ≡ ns → met_too ≡ ns →
     more ≡ least_from first (places_if (λ name. is_among name before) (idents_in judged)) → Met met (before ++ ident_names (idents_in met_too)) → (more ≡ least_from first (again_at before (process_in p))) × Met met (before ++ written_by (process_in p))
-again_step before p ws ns judged met_too met first more sliced are one two found m =
+again_step before p ws ns judged met_too met first more sliced are one two least m =
     let is : idents_in ns ≡ targets_in (map written_in p.writes) = are ∙ ap (λ l. targets_in (map written_in l)) sliced in
-    (found ∙ ap (λ l. least_from first (places_if (λ name. is_among name before) l)) (ap idents_in one ∙ is), subst (λ l. Met met (before ++ ident_names l)) (ap idents_in two ∙ is) m)
+    (least ∙ ap (λ l. least_from first (places_if (λ name. is_among name before) l)) (ap idents_in one ∙ is), subst (λ l. Met met (before ++ ident_names l)) (ap idents_in two ∙ is) m)

@@ -63,7 +63,11 @@ pub(crate) fn first_wrong_clock(
         is_wrong_event(names, events, &ident.name)
     });
     let is_clock = |ident: &Ident| is_clock(names, &ident.name);
-    let first = first_among(&assign_targets(alloc, uses)?, first, is_clock);
+    let first = first_among(
+        &assign_targets(alloc, uses.assigns.as_slice())?,
+        first,
+        is_clock,
+    );
     let first = first_among(&assign_reads(alloc, uses)?, first, is_clock);
     let targets = targets(alloc, &writes(alloc, uses)?)?;
     let first = first_among(&targets, first, is_clock);

@@ -1,23 +1,22 @@
 ghost use Rattle.std.specs.Prelude.{◌≡◌, ◌++◌, ◌∷◌, [], IfOk, OnOk, map, flat_map};
 ghost use Rattle.v_meaning.specs.Uses as m;
-ghost use Rattle.v_meaning.specs.ProcessRules.{assign_targets, assign_reads, process_reads, event_names, writes_of_process};
+ghost use Rattle.v_meaning.specs.ProcessRules.{assign_reads, process_reads, event_names, writes_of_process};
 ghost use Rattle.v_uses.specs.Seen.{seen_of};
 ghost use Rattle.v_uses.specs.Gathered.{uses_in, written_in};
-ghost use Rattle.v_rules.specs.Groups.{idents_in, targets_in, blocking_in, names_of_event};
+ghost use Rattle.v_rules.specs.Groups.{idents_in, blocking_in, names_of_event};
 
 use lz_base::OutOfMemory;
 use std::alloc::Global;
 use v_syntax::{AssignKind, Event, Ident};
-use v_uses::{Uses, Write};
+use v_uses::{AssignUses, Uses, Write};
 
-// The targets of the assigns.
+// The targets of assigns.
 pub(crate) fn assign_targets<'a>(
     alloc: Global,
-    uses: &Uses<'a>,
+    assigns: &[AssignUses<'a>],
 ) -> Result<Vec<&'a Ident>, OutOfMemory>
-    ensures { IfOk result (λ idents. (u : m.Uses) → uses_in uses.now ≡ seen_of u → idents_in idents.items ≡ assign_targets u) }
+    ensures { IfOk result (λ idents. idents.items ≡ map (λ assign. assign.target) assigns.now) }
 {
-    let assigns = uses.assigns.as_slice();
     Ok(assigns.iter().map(|assign| assign.target).collect(alloc)?)
 }
 
@@ -65,7 +64,7 @@ pub(crate) fn targets<'a>(
     alloc: Global,
     writes: &[Write<'a>],
 ) -> Result<Vec<&'a Ident>, OutOfMemory>
-    ensures { IfOk result (λ idents. idents_in idents.items ≡ targets_in (map written_in writes.now)) }
+    ensures { IfOk result (λ idents. idents.items ≡ map (λ write. write.name) writes.now) }
 {
     Ok(writes.iter().map(|write| write.name).collect(alloc)?)
 }

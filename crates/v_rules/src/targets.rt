@@ -62,7 +62,7 @@ pub(crate) fn first_wrong_target(
 {
     let written = targets(alloc, &writes(alloc, uses)?)?;
     let first = first_among(&written, None, |ident| is_unwritable(names, &ident.name));
-    let assigned = assign_targets(alloc, uses)?;
+    let assigned = assign_targets(alloc, uses.assigns.as_slice())?;
     Ok(first_among(&assigned, first, |ident| {
         is_unassignable(names, &ident.name)
     }))
@@ -112,7 +112,7 @@ pub(crate) fn first_wrong_assign(
 ) -> Result<Option<u64>, OutOfMemory>
     ensures { IfOk result (λ first. (u : m.Uses) → u.names ≡ names.now → uses_in uses.now ≡ seen_of u → first ≡ least_from None (wrong_assigns u)) }
 {
-    let targets = assign_targets(alloc, uses)?;
+    let targets = assign_targets(alloc, uses.assigns.as_slice())?;
     let first = first_assigned_again(alloc, &targets)?;
     let mut assigned = no_names(alloc);
     meet_each(&mut assigned, &targets)?;

@@ -1,5 +1,5 @@
 -- What was gathered of a module is what the definition of its uses has.
-use Rattle.std.proofs.Common.{◌≡◌, ◌≤◌, ◌<◌, ◌+◌, ℕ, length, take, take_all, drop, get_or, List, [], ◌∷◌, ◌++◌, map, flat_map, cond, Bool, true, false, Bor, refl, sym, ap, ◌∙◌}
+use Rattle.std.proofs.Common.{◌≡◌, ◌≤◌, ◌<◌, ◌+◌, ℕ, length, take, take_all, drop, get_or, List, [], ◌∷◌, ◌++◌, map, flat_map, Bor, refl, sym, ap, ◌∙◌}
 use Rattle.std.proofs.lemmas.List.{map-append}
 use Rattle.std.proofs.lemmas.List.Folds.{flat_map-map}
 use Rattle.std.proofs.lemmas.Simd.{map-map}

@@ -1,5 +1,5 @@
 -- The first broken rule, from the least places of each.
-use Rattle.std.proofs.Common.{◌≡◌, ◌<◌, ◌≤◌, ◌+◌, ℕ, List, [], ◌∷◌, ◌++◌, length, drop, get_or, Option, None, Some, min, Result, Ok, Err, IfOk, refl, sym, ap, ◌∙◌}
+use Rattle.std.proofs.Common.{◌≡◌, ◌<◌, ◌≤◌, ◌+◌, ℕ, List, [], ◌∷◌, length, drop, get_or, Option, None, Some, min, Result, Ok, Err, IfOk, refl, sym, ap, ◌∙◌}
 use Rattle.std.proofs.lemmas.List.{drop_all}
 use Rattle.lz_base.specs.declared.rule.Rule.{Rule}
 use Rattle.lz_base.specs.declared.fault.Fault.{Fault}
@@ -10,7 +10,7 @@ use Rattle.v_syntax.specs.declared.module.Module.{Module}
 use Rattle.v_meaning.specs.declared.names.Entry.{Entry}
 use Rattle.v_meaning.specs.Declarations.{names_of}
 use Rattle.v_meaning.specs.Broken.{least_of, fault_or, first_fault, places_of, process_rules}
-use Rattle.v_scope.specs.Firsts.{lesser, least_from}
+use Rattle.v_scope.specs.Firsts.{least_from}
 use Rattle.v_rules.specs.Places.{process_places}
 use Rattle.v_rules.proofs.Rounds.{next_is}
 

@@ -1,5 +1,5 @@
 -- Names that sets have met: by which kind they are first written, and whether two processes write them.
-use Rattle.std.proofs.Common.{◌≡◌, List, [], ◌∷◌, ◌++◌, map, flat_map, filter, cond, if◌then◌else◌, Bool, true, false, not, Option, None, Some, Bor, refl, sym, ap, ◌∙◌, true≢false}
+use Rattle.std.proofs.Common.{◌≡◌, List, [], ◌∷◌, ◌++◌, filter, cond, Bool, true, false, Bor, refl, sym, ap, ◌∙◌, true≢false}
 use Rattle.std.specs.Prelude.{ℕ, ◌||◌, ◌&&◌, bytes_eq}
 use Rattle.std.specs.BTreeSet.{BTreeSet}
 use Rattle.std.proofs.lemmas.Slice.Eq.{bytes_eq-Decides}

@@ -1,5 +1,5 @@
 -- Which names two processes write by blocking assignments, and the rounds over processes that find them.
-use Rattle.std.proofs.Common.{◌≡◌, ◌<◌, ◌≤◌, ◌+◌, ℕ, List, [], ◌∷◌, ◌++◌, map, flat_map, filter, cond, length, drop, get_or, Bool, true, false, not, Option, None, Some, Bor, append_assoc, append-nil, refl, sym, ap, ◌∙◌, Result, Ok, Err, IfOk, OnOk, subst}
+use Rattle.std.proofs.Common.{◌≡◌, ◌<◌, ◌≤◌, ◌+◌, ℕ, List, [], ◌∷◌, ◌++◌, map, flat_map, filter, cond, length, drop, get_or, Bool, true, false, not, Option, None, Bor, append_assoc, append-nil, refl, sym, ap, ◌∙◌, Result, Ok, Err, IfOk, subst}
 use Rattle.std.specs.Prelude.{◌||◌, ◌&&◌}
 use Rattle.std.specs.BTreeSet.{BTreeSet}
 use Rattle.std.proofs.lemmas.List.{map-append}
@@ -8,7 +8,6 @@ use Rattle.lz_base.specs.Met.{Met}
 use Rattle.lz_base.specs.Names.{is_among}
 use Rattle.v_syntax.specs.declared.token.Ident.{Ident}
 use Rattle.v_meaning.specs.Uses as m
-use Rattle.v_meaning.specs.MarkRules.{place_if}
 use Rattle.v_meaning.specs.ProcessRules.{Written, is_blocking, is_clocked, ident_names, writes_of_process, reads_of_process, places_if, blocking_names, all_blocking, clocked_of, combinational_of, read_elsewhere}
 use Rattle.v_scope.specs.Firsts.{least_from}
 use Rattle.v_uses.specs.Seen.{Seen, ProcessSeen, process_seen, seen_of}
@@ -16,7 +15,7 @@ use Rattle.v_uses.specs.declared.gathered.Write.{Write}
 use Rattle.v_uses.specs.declared.gathered.ProcessUses.{ProcessUses}
 use Rattle.v_uses.specs.declared.gathered.Uses.{Uses}
 use Rattle.v_uses.specs.Gathered.{written_in, process_in, uses_in}
-use Rattle.v_rules.specs.Groups.{idents_in, targets_in, blocking_in, blocking_by, shared_from, is_elsewhere, elsewhere_at}
+use Rattle.v_rules.specs.Groups.{idents_in, blocking_in, blocking_by, shared_from, is_elsewhere, elsewhere_at}
 use Rattle.v_rules.proofs.Rounds.{gathered, gathered_all, places_same, MetSome, met_next}
 use Rattle.v_rules.proofs.Sets.{among_more, among_filter}
 

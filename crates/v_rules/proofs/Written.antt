@@ -1,5 +1,5 @@
 -- The rounds over processes and writes for the rules of one writing process and of one kind of assignment.
-use Rattle.std.proofs.Common.{◌≡◌, ◌<◌, ◌≤◌, ◌+◌, ℕ, List, [], ◌∷◌, ◌++◌, map, flat_map, length, drop, get_or, if◌then◌else◌, Bool, true, false, not, Option, None, Some, Bor, append_assoc, append-nil, refl, sym, ap, ◌∙◌, subst}
+use Rattle.std.proofs.Common.{◌≡◌, ◌<◌, ◌≤◌, ◌+◌, ℕ, List, [], ◌∷◌, ◌++◌, map, flat_map, length, drop, get_or, if◌then◌else◌, Bool, true, false, not, Option, None, Some, Bor, refl, sym, ap, ◌∙◌, subst}
 use Rattle.std.specs.Prelude.{◌||◌, bytes_eq}
 use Rattle.std.specs.BTreeSet.{BTreeSet}
 use Rattle.std.proofs.lemmas.Slice.Eq.{bytes_eq-Decides}
@@ -13,7 +13,7 @@ use Rattle.v_meaning.specs.Uses as m
 use Rattle.v_meaning.specs.MarkRules.{place_if}
 use Rattle.v_meaning.specs.ProcessRules.{Written, ident_names, places_if, written_names, writes_of_process, written_again, is_blocking, differ, first_kind, mixed_kinds, assigned_again}
 use Rattle.v_scope.specs.Firsts.{least_from}
-use Rattle.v_uses.specs.Seen.{Seen, ProcessSeen, process_seen, seen_of}
+use Rattle.v_uses.specs.Seen.{Seen, process_seen, seen_of}
 use Rattle.v_uses.specs.declared.gathered.Write.{Write}
 use Rattle.v_uses.specs.declared.gathered.ProcessUses.{ProcessUses}
 use Rattle.v_uses.specs.declared.gathered.Uses.{Uses}

@@ -55,7 +55,7 @@ fn is_combinational(item: &Item) -> bool
     )
 }
 
-/// Whether each process of a module waits for an edge (IEEE Std 1364-2005, 9.9.2), so that none is combinational. It takes
+/// Whether each process of a module waits for an edge (IEEE Std 1364-2005, 9.7.2), so that none is combinational. It takes
 /// no memory.
 pub fn is_clocked(module: &Module) -> bool
     ensures { (names : List Entry) → IsTrue result ↔ (combinational_of (uses_of names «module».now) ≡ []) }

@@ -1,0 +1,5 @@
+use Rattle.v_rules.proofs.Gathered.{process_reads_are}
+use Rattle.v_rules.proofs.idents.process_reads.Goals as goal
+
+pub returns : goal.returns
+returns c u seen = process_reads_are c.args.uses.now u _ _ _ c.as_slice-process-items.ensures c.loop-process-test.false c.loop-process.invariant seen

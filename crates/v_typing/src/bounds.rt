@@ -14,8 +14,9 @@ use v_core::Open;
 use v_names::Names;
 use v_syntax::{Expr, Ident};
 
-// The number of a bound or count.
-fn bound(alloc: Global, names: &Names, x: &Expr) -> Result<u128, OutOfMemory>
+/// The number of a bound or count that has a proper value (IEEE Std 1364-2005, 4.10.1). `OutOfMemory` is the only other
+/// answer, here and below.
+pub fn bound(alloc: Global, names: &Names, x: &Expr) -> Result<u128, OutOfMemory>
     requires { is_some (proper_value names.now x.now) ≡ true }
     ensures { IfOk result (λ n. proper_value names.now x.now ≡ Some n) }
 {
@@ -25,8 +26,7 @@ fn bound(alloc: Global, names: &Names, x: &Expr) -> Result<u128, OutOfMemory>
     }
 }
 
-/// A part of a vector between proper bounds, which descend within the declared range (IEEE Std 1364-2005, 5.2.1).
-/// `OutOfMemory` is the only other answer, here and below.
+/// A part of a vector between proper bounds, which descend within the declared range (5.2.1).
 pub fn part_between(
     alloc: Global,
     names: &Names,

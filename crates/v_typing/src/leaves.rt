@@ -114,8 +114,8 @@ fn bits(name: u32, at: u64, low: u32, width: u32) -> Typed
     }
 }
 
-// How many bits there are from the most to the least significant one.
-fn span(msb: u128, lsb: u128) -> u32
+/// How many bits there are from the most to the least significant one.
+pub fn span(msb: u128, lsb: u128) -> u32
     requires descends { lsb ≤ msb }
     requires within { msb < lsb + 128 }
     ensures { result ≡ span msb lsb }
@@ -123,8 +123,8 @@ fn span(msb: u128, lsb: u128) -> u32
     (msb - lsb + 1) as u32
 }
 
-// How far a bit is from the lowest one.
-fn offset(lsb: u128, low: u32) -> u32
+/// How far a bit is from the lowest one.
+pub fn offset(lsb: u128, low: u32) -> u32
     requires above { low ≤ lsb }
     requires within { lsb < low + 128 }
     ensures { result ≡ lsb - low }

@@ -172,11 +172,11 @@ pub narrow_parts : (names : List Entry) (sites : List ℕ) (x : Target) (brace :
     is_sound_target names x ≡ true → parts_width (map (target_of names sites) more) ≤ 128
 narrow_parts names sites x brace parts more is p h =
     let same : parts_width (map (target_of names sites) more) ≡ targets_width names parts =
-        ap (λ (ys : List Target). parts_width (map (target_of names sites) ys)) p ∙ widths_still names sites parts in
+    ap (λ (ys : List Target). parts_width (map (target_of names sites) ys)) p ∙ widths_still names sites parts in
     let between : (nat_le 1 (targets_width names parts) && nat_le (targets_width names parts) 128) ≡ true =
-        second_of (targets_sound names parts) (is_between_1_and_128 (Some (targets_width names parts))) (concat_sound names x brace parts is h) in
+    second_of (targets_sound names parts) (is_between_1_and_128 (Some (targets_width names parts))) (concat_sound names x brace parts is h) in
     let small : targets_width names parts ≤ 128 =
-        leb-true (targets_width names parts) 128 (second_of (nat_le 1 (targets_width names parts)) (nat_le (targets_width names parts) 128) between) in
+    leb-true (targets_width names parts) 128 (second_of (nat_le 1 (targets_width names parts)) (nat_le (targets_width names parts) 128) between) in
     omega (arith, same, small)
 
 -- ---- bounds
@@ -206,7 +206,7 @@ pub room : (names : List Entry) (sites : List ℕ) (parts : List Target) (i : �
     more ≡ (target_of names sites x).width → width + parts_width (map (target_of names sites) (drop i parts)) ≡ whole → whole ≤ 128 → width + more ≤ 128
 room names sites parts i x width more whole h is p before small =
     let e : parts_width (map (target_of names sites) (drop i parts)) ≡ (target_of names sites x).width + parts_width (map (target_of names sites) (drop (i + 1) parts)) =
-        left_width names sites parts i x h is in
+    left_width names sites parts i x h is in
     omega (arith, e, p, before, small)
 
 pub more_bits : (names : List Entry) (sites : List ℕ) (parts : List Target) (i : ℕ) (x : Target) (width more wider whole : ℕ) → i < length parts → x ≡ get_or parts i x →
@@ -214,7 +214,7 @@ pub more_bits : (names : List Entry) (sites : List ℕ) (parts : List Target) (i
     wider + parts_width (map (target_of names sites) (drop (i + 1) parts)) ≡ whole
 more_bits names sites parts i x width more wider whole h is p q before =
     let e : parts_width (map (target_of names sites) (drop i parts)) ≡ (target_of names sites x).width + parts_width (map (target_of names sites) (drop (i + 1) parts)) =
-        left_width names sites parts i x h is in
+    left_width names sites parts i x h is in
     omega (arith, e, p, q, before)
 
 pub joined_made : (names : List Entry) (sites : List ℕ) (parts : List Target) (i width : ℕ) (typed : List TypedTarget) (made : TypedTarget) → length parts ≤ i →

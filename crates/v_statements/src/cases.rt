@@ -94,8 +94,7 @@ fn fixed_arms(
     Ok(Items::from_vec(fixed))
 }
 
-/// A case whose subject and items are compared at the greatest of their widths, as signed where all are (9.5). That is at
-/// most 128 bits, since no expression has more.
+/// A case whose subject and items are compared at the greatest of their widths, as signed where all are (9.5).
 pub fn compared(
     alloc: Global,
     subject: Open,
@@ -104,6 +103,7 @@ pub fn compared(
     ensures { IfOk result (λ t. (names : List Entry) → acts_in t names ≡ case_of (sense_in subject names) (map (open_arm names) arms)) }
 {
     let by = common(&subject, arms.as_slice());
+    // No sound expression has more bits.
     if by.width > 128 {
         return Err(OutOfMemory);
     }

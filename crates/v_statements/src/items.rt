@@ -170,11 +170,7 @@ fn fixed_items(
 }
 
 /// A label whose items are compared at the common width and sign.
-pub fn fixed_label(
-    alloc: Global,
-    label: OpenLabel,
-    by: Common,
-) -> Result<TypedLabel, OutOfMemory>
+pub fn fixed_label(alloc: Global, label: OpenLabel, by: Common) -> Result<TypedLabel, OutOfMemory>
     requires within { by.width ≤ 128 }
     ensures items { IfOk result (λ t. (names : List Entry) → map (typed_item names) (items_in t) ≡ map (item_at (comparison_in by)) (map (open_item names) (open_items label))) }
     ensures default { IfOk result (λ t. is_typed_default t ≡ is_open_default label) }

@@ -1,8 +1,7 @@
 ghost use Rattle.std.specs.Prelude.{◌≡◌, ◌==◌, if◌then◌else◌, map, IfOk};
 ghost use Rattle.v_meaning.specs.Acts.{End, Branch, sequence};
 ghost use Rattle.v_meaning.specs.Statements.{assign_acts};
-ghost use Rattle.v_meaning.specs.Targets.{place_of, write_bits, selected_target, parts_width, parts_writes};
-ghost use Rattle.v_core.specs.Values.{entry_at, index_in, typed_value};
+ghost use Rattle.v_core.specs.Values.{typed_value};
 ghost use Rattle.v_core.specs.Statements.{target_in, acts_in, writes_in};
 ghost use Rattle.v_statements.specs.Made.{part_in, select_in, joined_in, body_acts};
 ghost use Rattle.v_statements.specs.Cases.{chosen_acts, typed_arm};
@@ -25,14 +24,7 @@ pub fn part(name: u32, at: u64, low: u32, width: u32) -> TypedTarget
 }
 
 /// A bit of a variable or a word of a memory, of so many bits, at an index of this width and sign (5.2.1 and 5.2.2).
-pub fn select(
-    name: u32,
-    at: u64,
-    bits: u32,
-    width: u32,
-    signed: bool,
-    index: Typed,
-) -> TypedTarget
+pub fn select(name: u32, at: u64, bits: u32, width: u32, signed: bool, index: Typed) -> TypedTarget
     ensures { target_in result ≡ select_in name bits width signed index }
 {
     TypedTarget::Select {

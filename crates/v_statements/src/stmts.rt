@@ -24,12 +24,7 @@ use v_syntax::{Arm, AssignKind, CaseKind, Expr, Stmt, Target};
 use v_typing::{opened, own};
 
 // A condition, which determines itself (IEEE Std 1364-2005, 9.4). `OutOfMemory` is the only other answer, here and below.
-fn condition(
-    alloc: Global,
-    names: &Names,
-    sites: &Sites,
-    x: &Expr,
-) -> Result<Typed, OutOfMemory>
+fn condition(alloc: Global, names: &Names, sites: &Sites, x: &Expr) -> Result<Typed, OutOfMemory>
     requires sound { is_sound names.now x.now ≡ true }
     ensures { IfOk result (λ t. typed_value t names.now ≡ own (sense_of names.now sites.now x.now)) }
 {
@@ -60,8 +55,8 @@ fn assignment(
 }
 
 /// A statement, with each width and extension of its expressions and targets written out, that has the same acts (IEEE Std
-/// 1364-2005, 9). Its expressions are sound, and its targets have 1 to 128 bits. Each node is visited once, but for the
-/// look-ups of names. `OutOfMemory` is the only other answer.
+/// 1364-2005, 9). Its expressions are sound, and its targets have 1 to 128 bits. `OutOfMemory` is the only other answer.
+/// The work is linear in the statement, but for the look-ups of names.
 #[cycle(statements)]
 pub fn statement(
     alloc: Global,

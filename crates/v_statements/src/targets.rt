@@ -59,14 +59,7 @@ fn selected(
     let index_signed = index.signed;
     let x = own(alloc, index)?;
     let width = select_width(known.kind, known.width);
-    let target = making::select(
-        known.number,
-        ident.at,
-        width,
-        index_width,
-        index_signed,
-        x,
-    );
+    let target = making::select(known.number, ident.at, width, index_width, index_signed, x);
     Ok(MeasuredTarget { width, target })
 }
 

@@ -1,0 +1,9 @@
+pub mod MakingLaws
+pub mod Turns
+pub mod Sites
+pub mod TargetLaws
+pub mod CaseLaws
+pub mod StmtLaws
+pub mod ItemLaws
+pub mod OpenLaws
+pub mod Depths

@@ -1,0 +1,118 @@
+use denote.Param.Weighed.{most, at_most}
+use Rattle.std.proofs.Common.{arith, ap, ◌∙◌}
+use Rattle.v_syntax.proofs.stmt.Stmt.TheLaws.{the_size}
+use Rattle.v_syntax.proofs.stmt.Arm.TheLaws as arm
+use Rattle.v_meaning.specs.Acts.{sequence}
+use Rattle.v_meaning.specs.Expressions.{sense_of}
+use Rattle.v_core.specs.Statements.{ActsIn}
+use Rattle.v_typing.specs.Sound.{is_sound_stmt}
+use Rattle.v_statements.specs.Sound.{is_sound_arm}
+use Rattle.v_statements.proofs.Depths.{body_deeper, if_deeper, then_deeper, else_deeper, arms_deeper, arm_deeper}
+use Rattle.v_statements.proofs.Turns.{one_of, one_same, all_same}
+use Rattle.v_statements.proofs.OpenLaws.{arm_opened}
+use Rattle.v_statements.proofs.StmtLaws.{when_null, when_block, when_if, when_if_else, when_case, when_assign, branch_is, case_is_source, sound_block, sound_if, sound_then, sound_condition, sound_one, sound_other, sound_subject, sound_arms, sound_target, sound_value, sound_label, sound_body}
+use Rattle.v_statements.proofs.stmts.+statements.Goals as goal
+
+pub statement-returns-in-Null : goal.statement-returns-in-Null
+statement-returns-in-Null t c = ap (λ (f : ActsIn). f c.args.names.now) c.nothing.ensures ∙ when_null c.args.names.now c.args.sites.now c.args.s.now c.in-Null.is
+
+pub statement-each-requires : goal.statement-each-requires
+statement-each-requires t c = (
+  omega (arith, ap the_size c.in-Block.is, body_deeper c.in-Block.body, ap (most the_size) c.as_slice.ensures),
+  sound_block c.args.names.now c.args.s.now _ _ c.in-Block.is c.as_slice.ensures c.requires.sound,
+)
+
+pub statement-returns-in_ok-body-in-Block : goal.statement-returns-in_ok-body-in-Block
+statement-returns-in_ok-body-in-Block t c =
+    ap (λ (f : ActsIn). f c.args.names.now) c.in_turn.ensures ∙ ap sequence c.in_ok-body-in-Block.ensures
+    ∙ when_block c.args.names.now c.args.sites.now c.args.s.now _ _ c.in-Block.is c.as_slice.ensures
+
+pub statement-condition-requires : goal.statement-condition-requires
+statement-condition-requires t c = record { sound = sound_if c.args.names.now c.args.s.now _ _ c.in-If.is c.requires.sound }
+
+pub statement-statement-requires : goal.statement-statement-requires
+statement-statement-requires t c = (
+  omega (arith, ap the_size c.in-If.is, if_deeper c.in-If.x c.in-If.one, ap the_size c.get.ensures),
+  sound_then c.args.names.now c.args.s.now _ _ _ c.in-If.is c.get.ensures c.requires.sound,
+)
+
+pub statement-returns-in_ok-t-in-If : goal.statement-returns-in_ok-t-in-If
+statement-returns-in_ok-t-in-If t c =
+    branch_is c.args.names.now _ _ _ _ (sense_of c.args.names.now c.args.sites.now c.in-If.x) _ _ c.in_ok-t-in-If.ensures c.in_ok-x-in-If.ensures c.in_ok-one-in-If.ensures (ap (λ (f : ActsIn). f c.args.names.now) c.nothing-in-If.ensures)
+    ∙ when_if c.args.names.now c.args.sites.now c.args.s.now _ _ _ c.in-If.is c.get.ensures
+
+pub statement-condition-requires-in-IfElse : goal.statement-condition-requires-in-IfElse
+statement-condition-requires-in-IfElse t c = record { sound = sound_condition c.args.names.now c.args.s.now _ _ _ c.in-IfElse.is c.requires.sound }
+
+pub statement-statement-requires-in-IfElse : goal.statement-statement-requires-in-IfElse
+statement-statement-requires-in-IfElse t c = (
+  omega (arith, ap the_size c.in-IfElse.is, then_deeper c.in-IfElse.x c.in-IfElse.one c.in-IfElse.other, ap the_size c.get-in-IfElse.ensures),
+  sound_one c.args.names.now c.args.s.now _ _ _ _ c.in-IfElse.is c.get-in-IfElse.ensures c.requires.sound,
+)
+
+pub statement-statement-requires-in-IfElse-2 : goal.statement-statement-requires-in-IfElse-2
+statement-statement-requires-in-IfElse-2 t c = (
+  omega (arith, ap the_size c.in-IfElse.is, else_deeper c.in-IfElse.x c.in-IfElse.one c.in-IfElse.other, ap the_size c.get-in-IfElse-2.ensures),
+  sound_other c.args.names.now c.args.s.now _ _ _ _ c.in-IfElse.is c.get-in-IfElse-2.ensures c.requires.sound,
+)
+
+pub statement-returns-in_ok-t-in-IfElse : goal.statement-returns-in_ok-t-in-IfElse
+statement-returns-in_ok-t-in-IfElse t c =
+    branch_is c.args.names.now _ _ _ _ (sense_of c.args.names.now c.args.sites.now c.in-IfElse.x) _ _ c.in_ok-t-in-IfElse.ensures c.in_ok-x-in-IfElse.ensures c.in_ok-one-in-IfElse.ensures c.in_ok-other-in-IfElse.ensures
+    ∙ when_if_else c.args.names.now c.args.sites.now c.args.s.now _ _ _ _ _ c.in-IfElse.is c.get-in-IfElse.ensures c.get-in-IfElse-2.ensures
+
+pub statement-opened-requires : goal.statement-opened-requires
+statement-opened-requires t c = record { sound = sound_subject c.args.names.now c.args.s.now _ _ _ c.in-Case.is c.requires.sound }
+
+pub statement-opened_arms-requires : goal.statement-opened_arms-requires
+statement-opened_arms-requires t c = (
+  omega (arith, ap the_size c.in-Case.is, arms_deeper c.in-Case.kind c.in-Case.subject c.in-Case.arms, ap (most arm.the_size) c.as_slice-in-Case.ensures),
+  sound_arms c.args.names.now c.args.s.now _ _ _ _ c.in-Case.is c.as_slice-in-Case.ensures c.requires.sound,
+)
+
+pub statement-returns-in_ok-t-in-Case : goal.statement-returns-in_ok-t-in-Case
+statement-returns-in_ok-t-in-Case t c =
+    c.in_ok-t-in-Case.ensures c.args.names.now ∙ case_is_source c.args.names.now c.args.sites.now _ _ _ _ _ c.in_ok-subject-in-Case.ensures c.in_ok-arms-in-Case.ensures
+    ∙ when_case c.args.names.now c.args.sites.now c.args.s.now _ _ _ _ c.in-Case.is c.as_slice-in-Case.ensures
+
+pub statement-assignment-requires-clause-target : goal.statement-assignment-requires-clause-target
+statement-assignment-requires-clause-target t c = sound_target c.args.names.now c.args.s.now _ _ _ _ c.in-Assign.is c.get-in-Assign.ensures c.requires.sound
+
+pub statement-assignment-requires-clause-value : goal.statement-assignment-requires-clause-value
+statement-assignment-requires-clause-value t c = sound_value c.args.names.now c.args.s.now _ _ _ c.in-Assign.is c.requires.sound
+
+pub statement-returns-in_ok-t-in-Assign : goal.statement-returns-in_ok-t-in-Assign
+statement-returns-in_ok-t-in-Assign t c =
+    c.in_ok-t-in-Assign.ensures ∙ when_assign c.args.names.now c.args.sites.now c.args.s.now _ _ _ _ c.in-Assign.is c.get-in-Assign.ensures
+
+pub each-statement-requires : goal.each-statement-requires
+each-statement-requires t c = (
+  omega (arith, at_most the_size c.args.body.now c.loop-s.s-index c.s-item.result c.loop-s-test.true, ap the_size c.s-item.is),
+  one_of (is_sound_stmt c.args.names.now) c.args.body.now _ _ c.loop-s-test.true c.s-item.is c.requires.sound,
+)
+
+pub each-loop-s-preserved : goal.each-loop-s-preserved
+each-loop-s-preserved t c =
+    one_same _ _ c.loop-s.all _ c.args.body.now _ _ _ c.loop-s-test.true c.s-item.is c.in_ok-push.ensures.ok c.in_ok-one.ensures c.loop-s.invariant
+
+pub each-returns : goal.each-returns
+each-returns t c = all_same _ _ c.loop-s.all c.args.body.now _ c.loop-s-test.false c.loop-s.invariant
+
+pub opened_arms-opened_label-requires : goal.opened_arms-opened_label-requires
+opened_arms-opened_label-requires t c = record {
+  sound = sound_label c.args.names.now c.arm-item.result (one_of (is_sound_arm c.args.names.now) c.args.arms.now _ _ c.loop-arm-test.true c.arm-item.is c.requires.sound);
+}
+
+pub opened_arms-statement-requires : goal.opened_arms-statement-requires
+opened_arms-statement-requires t c = (
+  omega (arith, at_most arm.the_size c.args.arms.now c.loop-arm.arm-index c.arm-item.result c.loop-arm-test.true, ap arm.the_size c.arm-item.is, arm_deeper c.arm-item.result),
+  sound_body c.args.names.now c.arm-item.result (one_of (is_sound_arm c.args.names.now) c.args.arms.now _ _ c.loop-arm-test.true c.arm-item.is c.requires.sound),
+)
+
+pub opened_arms-loop-arm-preserved : goal.opened_arms-loop-arm-preserved
+opened_arms-loop-arm-preserved t c =
+    one_same _ _ c.loop-arm.all _ c.args.arms.now _ _ _ c.loop-arm-test.true c.arm-item.is c.in_ok-push.ensures.ok
+    (arm_opened c.args.names.now c.args.sites.now c.args.kind _ _ _ c.in_ok-label.ensures.items c.in_ok-label.ensures.default c.in_ok-body.ensures) c.loop-arm.invariant
+
+pub opened_arms-returns : goal.opened_arms-returns
+opened_arms-returns t c = all_same _ _ c.loop-arm.all c.args.arms.now _ c.loop-arm-test.false c.loop-arm.invariant

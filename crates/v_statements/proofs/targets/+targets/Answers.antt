@@ -1,0 +1,58 @@
+use denote.Param.Weighed.{most, at_most}
+use Rattle.std.proofs.Common.{arith, ap}
+use Rattle.v_syntax.proofs.stmt.Target.TheLaws.{the_size}
+use Rattle.v_statements.proofs.Depths.{parts_deeper}
+use Rattle.v_statements.proofs.Turns.{one_of, one_same}
+use Rattle.v_statements.proofs.TargetLaws.{as_target, when_name, when_select, when_part, when_concat, sound_index, sound_bounds, sound_parts, narrow_parts, room, more_bits, joined_made}
+use Rattle.v_typing.specs.Sound.{is_sound_target}
+use Rattle.v_statements.proofs.targets.+targets.Goals as goal
+
+pub measured-returns-in-Name : goal.measured-returns-in-Name
+measured-returns-in-Name t c = as_target c.args.names.now _ _ _ (when_name c.args.names.now c.args.sites.now c.args.target.now _ c.in-Name.is) c.whole.ensures
+
+pub measured-opened-requires : goal.measured-opened-requires
+measured-opened-requires t c = record { sound = sound_index c.args.names.now c.args.target.now _ _ _ c.in-Select.is c.requires.sound }
+
+pub measured-returns-in_ok-t-in-Select : goal.measured-returns-in_ok-t-in-Select
+measured-returns-in_ok-t-in-Select t c =
+    as_target c.args.names.now _ _ _ (when_select c.args.names.now c.args.sites.now c.args.target.now _ _ _ _ c.in-Select.is c.in_ok-index-in-Select.ensures) c.in_ok-t-in-Select.ensures
+
+pub measured-bounded-requires : goal.measured-bounded-requires
+measured-bounded-requires t c = record { sound = sound_bounds c.args.names.now c.args.target.now _ _ c.in-Part.is c.requires.sound }
+
+pub measured-returns-in_ok-t-in-Part : goal.measured-returns-in_ok-t-in-Part
+measured-returns-in_ok-t-in-Part t c =
+    as_target c.args.names.now _ _ _
+    (when_part c.args.names.now c.args.sites.now c.args.target.now _ _ c.in-Part.is (sound_bounds c.args.names.now c.args.target.now _ _ c.in-Part.is c.requires.sound)) c.in_ok-t-in-Part.ensures
+
+pub measured-joined-requires : goal.measured-joined-requires
+measured-joined-requires t c = (
+  omega (arith, ap the_size c.in-Concat.is, parts_deeper c.in-Concat.brace c.in-Concat.parts, ap (most the_size) c.as_slice.ensures),
+  (
+    sound_parts c.args.names.now c.args.target.now _ _ _ c.in-Concat.is c.as_slice.ensures c.requires.sound,
+    narrow_parts c.args.names.now c.args.sites.now c.args.target.now _ _ _ c.in-Concat.is c.as_slice.ensures c.requires.sound,
+  ),
+)
+
+pub measured-returns-in_ok-t-in-Concat : goal.measured-returns-in_ok-t-in-Concat
+measured-returns-in_ok-t-in-Concat t c =
+    as_target c.args.names.now _ _ _ (when_concat c.args.names.now c.args.sites.now c.args.target.now _ _ _ c.in-Concat.is c.as_slice.ensures) c.in_ok-t-in-Concat.ensures
+
+pub joined-measured-requires : goal.joined-measured-requires
+joined-measured-requires t c = (
+  omega (arith, at_most the_size c.args.parts.now c.loop-part.part-index c.part-item.result c.loop-part-test.true, ap the_size c.part-item.is),
+  one_of (is_sound_target c.args.names.now) c.args.parts.now _ _ c.loop-part-test.true c.part-item.is c.requires.sound,
+)
+
+pub joined-wider-width-requires : goal.joined-wider-width-requires
+joined-wider-width-requires t c =
+    room c.args.names.now c.args.sites.now c.args.parts.now _ _ _ _ _ c.loop-part-test.true c.part-item.is c.in_ok-one.ensures.measured c.loop-part.invariant.1 c.requires.narrow
+
+pub joined-loop-part-preserved : goal.joined-loop-part-preserved
+joined-loop-part-preserved t c = (
+  one_same _ _ c.loop-part.typed _ c.args.parts.now _ _ _ c.loop-part-test.true c.part-item.is c.in_ok-push.ensures.ok c.in_ok-one.ensures.means c.loop-part.invariant.0,
+  more_bits c.args.names.now c.args.sites.now c.args.parts.now _ _ _ _ _ _ c.loop-part-test.true c.part-item.is c.in_ok-one.ensures.measured c.wider-width.ensures c.loop-part.invariant.1,
+)
+
+pub joined-returns : goal.joined-returns
+joined-returns t c = joined_made c.args.names.now c.args.sites.now c.args.parts.now _ _ c.loop-part.typed _ c.loop-part-test.false c.joined-target.ensures c.loop-part.invariant.0 c.loop-part.invariant.1

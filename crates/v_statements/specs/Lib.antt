@@ -1,0 +1,4 @@
+pub mod Sound
+pub mod Made
+pub mod Measured
+pub mod Cases

@@ -1,0 +1,183 @@
+ghost use Rattle.std.specs.Prelude.{◌≡◌, ◌≤◌, ◌<◌, ◌+◌, ◌-◌, if◌then◌else◌, true, map, IfOk, Some, is_some};
+ghost use Rattle.v_meaning.specs.Senses.{index_of};
+ghost use Rattle.v_meaning.specs.Names.{entry_of, or_zero, span};
+ghost use Rattle.v_meaning.specs.Proper.{is_part, proper_value};
+ghost use Rattle.v_meaning.specs.Targets.{whole_target, selected_target, part_target, target_of, parts_width};
+ghost use Rattle.v_core.specs.Bodies.{sense_in};
+ghost use Rattle.v_typing.specs.Sound.{is_sound_target, targets_sound};
+ghost use Rattle.v_statements.specs.Measured.{IsTarget, is_memory, joined_target};
+
+use crate::making;
+use lz_base::{Items, OutOfMemory};
+use std::alloc::Global;
+use v_constants::proper_value;
+use v_core::{Open, TypedTarget};
+use v_meaning::Kind;
+use v_names::{Names, Sites};
+use v_syntax::{Expr, Ident, Target};
+use v_typing::{opened, own};
+
+/// A typed target, and how many bits it has.
+#[derive(Drop)]
+pub struct MeasuredTarget {
+    pub width: u32,
+    pub target: TypedTarget,
+}
+
+// All bits of a variable.
+fn whole(names: &Names, ident: &Ident) -> MeasuredTarget
+    ensures { IsTarget names.now result (whole_target (entry_of names.now ident.now.name)) }
+{
+    let known = names.known(&ident.name);
+    let width = known.width;
+    let target = making::part(known.number, ident.at, 0, width);
+    MeasuredTarget { width, target }
+}
+
+// How many bits are selected from a name of this kind and width: a word of a memory, else one bit.
+fn select_width(kind: Kind, width: u32) -> u32
+    ensures { result ≡ (if is_memory kind then width else 1) }
+{
+    if matches!(kind, Kind::Memory(..)) {
+        width
+    } else {
+        1
+    }
+}
+
+// A bit of a variable or a word of a memory (IEEE Std 1364-2005, 5.2.1 and 5.2.2).
+fn selected(
+    alloc: Global,
+    names: &Names,
+    ident: &Ident,
+    index: Open,
+) -> Result<MeasuredTarget, OutOfMemory>
+    ensures { IfOk result (λ t. IsTarget names.now t (selected_target (entry_of names.now ident.now.name).kind (entry_of names.now ident.now.name) (index_of (sense_in index names.now)))) }
+{
+    let known = names.known(&ident.name);
+    let index_width = index.width;
+    let index_signed = index.signed;
+    let x = own(alloc, index)?;
+    let width = select_width(known.kind, known.width);
+    let target = making::select(known.number, ident.at, width, index_width, index_signed, x);
+    Ok(MeasuredTarget { width, target })
+}
+
+// How many bits there are from the most to the least significant one.
+fn span(msb: u128, lsb: u128) -> u32
+    requires descends { lsb ≤ msb }
+    requires within { msb < lsb + 128 }
+    ensures { result ≡ span msb lsb }
+{
+    (msb - lsb + 1) as u32
+}
+
+// How far a bit is from the lowest one.
+fn offset(lsb: u128, low: u32) -> u32
+    requires above { low ≤ lsb }
+    requires within { lsb < low + 128 }
+    ensures { result ≡ lsb - low }
+{
+    (lsb - low as u128) as u32
+}
+
+// A part of a variable, whose bounds descend within the declared range (5.2.1).
+fn part(names: &Names, ident: &Ident, msb: u128, lsb: u128) -> MeasuredTarget
+    requires above { (entry_of names.now ident.now.name).low ≤ lsb }
+    requires descends { lsb ≤ msb }
+    requires within { msb < (entry_of names.now ident.now.name).low + (entry_of names.now ident.now.name).width }
+    ensures { IsTarget names.now result (part_target (entry_of names.now ident.now.name) msb lsb) }
+{
+    let known = names.known(&ident.name);
+    let width = span(msb, lsb);
+    let low = offset(lsb, known.low);
+    let target = making::part(known.number, ident.at, low, width);
+    MeasuredTarget { width, target }
+}
+
+// The number of a bound.
+fn bound(alloc: Global, names: &Names, x: &Expr) -> Result<u128, OutOfMemory>
+    requires { is_some (proper_value names.now x.now) ≡ true }
+    ensures { IfOk result (λ n. proper_value names.now x.now ≡ Some n) }
+{
+    match proper_value(alloc, names, x)? {
+        Some(n) => Ok(n),
+        None => unreachable!(),
+    }
+}
+
+// A part between proper bounds. `OutOfMemory` is the only other answer, here and below.
+fn bounded(
+    alloc: Global,
+    names: &Names,
+    ident: &Ident,
+    msb: &Expr,
+    lsb: &Expr,
+) -> Result<MeasuredTarget, OutOfMemory>
+    requires sound { is_part (entry_of names.now ident.now.name) (proper_value names.now msb.now) (proper_value names.now lsb.now) ≡ true }
+    ensures { IfOk result (λ t. IsTarget names.now t (part_target (entry_of names.now ident.now.name) (or_zero (proper_value names.now msb.now)) (or_zero (proper_value names.now lsb.now)))) }
+{
+    let m = bound(alloc, names, msb)?;
+    let l = bound(alloc, names, lsb)?;
+    Ok(part(names, ident, m, l))
+}
+
+/// What an assignment writes, typed: an index determines itself, and bounds are numbers (9.2).
+#[cycle(targets)]
+pub fn measured(
+    alloc: Global,
+    names: &Names,
+    sites: &Sites,
+    target: &Target,
+) -> Result<MeasuredTarget, OutOfMemory>
+    requires sound { is_sound_target names.now target.now ≡ true }
+    ensures { IfOk result (λ t. IsTarget names.now t (target_of names.now sites.now target.now)) }
+{
+    match target {
+        Target::Name(name) => Ok(whole(names, name)),
+        Target::Select { name, index, .. } => {
+            let index = opened(alloc, names, sites, index)?;
+            let t = selected(alloc, names, name, index)?;
+            Ok(t)
+        }
+        Target::Part { name, range } => {
+            let t = bounded(alloc, names, name, &range.msb.expr, &range.lsb.expr)?;
+            Ok(t)
+        }
+        Target::Concat { parts, .. } => {
+            let t = joined(alloc, names, sites, parts.as_slice())?;
+            Ok(t)
+        }
+    }
+}
+
+// A width with more bits.
+fn wider(width: u32, more: u32) -> u32
+    requires { width + more ≤ 128 }
+    ensures { result ≡ width + more }
+{
+    width + more
+}
+
+// Parts side by side, of 1 to 128 bits together.
+#[cycle(targets)]
+fn joined(
+    alloc: Global,
+    names: &Names,
+    sites: &Sites,
+    parts: &[Target],
+) -> Result<MeasuredTarget, OutOfMemory>
+    requires sound { targets_sound names.now parts.now ≡ true }
+    requires narrow { parts_width (map (target_of names.now sites.now) parts.now) ≤ 128 }
+    ensures { IfOk result (λ t. IsTarget names.now t (joined_target (map (target_of names.now sites.now) parts.now))) }
+{
+    let mut width = 0u32;
+    let mut typed = Items::new(alloc);
+    for part in parts {
+        let one = measured(alloc, names, sites, part)?;
+        typed.push(one.target)?;
+        width = wider(width, one.width);
+    }
+    let target = making::joined(typed);
+    Ok(MeasuredTarget { width, target })
+}

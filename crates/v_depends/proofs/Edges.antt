@@ -1,14 +1,13 @@
 -- The edges of a graph are its pairs of names, which are what its names depend on directly.
-use Rattle.std.proofs.Common.{◌≡◌, ◌<◌, ◌≤◌, ◌+◌, ℕ, List, [], ◌∷◌, ◌++◌, length, get_or, set, take, Bool, true, false, refl, sym, ap, subst, ◌∙◌, inl, inr, ◌⊎◌, arith}
-use Rattle.std.specs.Prelude.{◌||◌, ◌==◌, if◌then◌else◌, bytes_eq}
+use Rattle.std.proofs.Common.{◌≡◌, ◌<◌, ◌+◌, ℕ, List, [], ◌∷◌, ◌++◌, length, get_or, take, Bool, true, false, refl, sym, ap, subst, ◌∙◌, inl, inr}
+use Rattle.std.specs.Prelude.{◌==◌, if◌then◌else◌, bytes_eq}
 use Rattle.std.specs.List.{All, AllZip}
 use Rattle.std.proofs.lemmas.List.Elements.{All-head, All-tail}
-use Rattle.std.proofs.lemmas.List.{append-nil, get_or-set_same, get_or-set_other}
-use Rattle.std.proofs.lemmas.Bool.{cases_eq, eqb-true, eq-eqb, ne_eqb, or_cases, or_left, or_right}
+use Rattle.std.proofs.lemmas.Bool.{eqb-true, eq-eqb, or_cases, or_left, or_right}
 use Rattle.lz_base.specs.Names.{is_among}
 use Rattle.v_meaning.specs.ProcessRules.{Dependence, direct}
 use Rattle.v_depends.specs.Pairs.{pairs_with, pairs_of}
-use Rattle.v_depends.specs.Graphs.{place, IsEdge}
+use Rattle.v_depends.specs.Graphs.{IsEdge}
 use Rattle.v_depends.specs.Nodes.{is_in, is_marked, row, sources, starts_of}
 use Rattle.v_depends.proofs.Gathering.{from_next_at, sources_more}
 use Rattle.v_depends.proofs.Membership.{In, In_left, In_right, In_cases, among_left, among_right, among_cases, in_left, in_right, in_cases, in_one, bytes_same, bytes_self}
@@ -113,19 +112,6 @@ start_out on (f ∷ es) i h = elim (in_cases i (if is_marked on f.1 then f.0 ∷
 ]
 
 -- ---- rows
-
-pub row_more : (rows : List (List ℕ)) (at from node : ℕ) (new : List ℕ) → at < length rows → new ≡ row rows at ++ from ∷ [] → row (set rows at new) node ≡ row rows node ++ sources ((from, at) ∷ []) node
-row_more rows at from node new within is = elim (cases_eq at node) [
-  | inl same ↦ ap (row (set rows at new)) (sym same) ∙ get_or-set_same rows at new [] within ∙ is
-      ∙ ap (λ (n : ℕ). row rows n ++ from ∷ []) same ∙ ap (λ (b : Bool). row rows node ++ ((if b then from ∷ [] else []) ++ [])) (sym (eq-eqb at node same))
-  | inr apart ↦ get_or-set_other rows at node new [] (λ e. apart (sym e)) ∙ sym (append-nil (row rows node))
-      ∙ ap (λ (b : Bool). row rows node ++ ((if b then from ∷ [] else []) ++ [])) (sym (ne_eqb at node apart))
-]
-
-pub row_same : (rows : List (List ℕ)) (at from node : ℕ) → length rows ≤ at → node < length rows → row rows node ≡ row rows node ++ sources ((from, at) ∷ []) node
-row_same rows at from node past within =
-    let apart : at ≡ node → ⊥ = λ e. absurd (omega (arith, e)) in
-    sym (append-nil (row rows node)) ∙ ap (λ (b : Bool). row rows node ++ ((if b then from ∷ [] else []) ++ [])) (sym (ne_eqb at node apart))
 
 pub rows_next : (before after : List (List ℕ)) (edges : List (ℕ × ℕ)) (i node : ℕ) → i < length edges → row after node ≡ row before node ++ sources (get_or edges i (0, 0) ∷ []) node →
     row before node ≡ sources (take i edges) node → row after node ≡ sources (take (i + 1) edges) node

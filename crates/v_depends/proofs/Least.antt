@@ -1,7 +1,6 @@
 -- The least place, place by place, and what the rules of a module whose processes are all clocked look at.
-use Rattle.std.proofs.Common.{◌≡◌, ℕ, List, [], ◌∷◌, ◌++◌, map, flat_map, filter, Bool, true, false, not, Option, None, Some, refl, sym, ap, ◌∙◌, append_assoc}
+use Rattle.std.proofs.Common.{◌≡◌, ℕ, List, [], ◌∷◌, ◌++◌, map, flat_map, filter, Bool, true, false, not, Option, refl, sym, ap, ◌∙◌, append_assoc}
 use Rattle.std.specs.Prelude.{if◌then◌else◌}
-use Rattle.std.proofs.lemmas.Bool.{false_from_ne_true}
 use Rattle.std.proofs.lemmas.List.{append-nil}
 use Rattle.v_syntax.specs.declared.token.Ident.{Ident}
 use Rattle.v_meaning.specs.MarkRules.{place_if}
@@ -14,7 +13,6 @@ use Rattle.v_uses.specs.declared.gathered.Uses.{Uses as Gathered}
 use Rattle.v_uses.specs.Seen.{AssignSeen, ProcessSeen, Seen, assign_seen, process_seen, seen_of}
 use Rattle.v_uses.specs.Gathered.{assign_in, process_in, uses_in}
 use Rattle.v_depends.specs.Pairs.{dependences_of, blocking_of, is_circular_by, follows}
-use Rattle.v_depends.specs.Graphs.{marked_name, Suspected}
 
 -- ---- the least place
 
@@ -37,17 +35,6 @@ pub least_push : (first found more : Option ℕ) (test : List ℕ → Bool) (xs 
     more ≡ least_from found (place_if (test x.name) x.at) → more ≡ least_from first (places_if test zs)
 least_push first found more test xs zs x is p q =
     least_behind first found more test xs (x ∷ []) zs is p (q ∙ ap (least_from found) (sym (append-nil (place_if (test x.name) x.at))))
-
--- a place that is not less, or where the rule is not broken, changes nothing
-pub not_less : (first : Option ℕ) (broken : Bool) (at : ℕ) → least_from first (at ∷ []) ≡ first → first ≡ least_from first (place_if broken at)
-not_less first true at h = sym h
-not_less first false at h = refl
-
-pub not_suspected : (first : Option ℕ) (names : List (List ℕ)) (ds : List Dependence) (marks : List Bool) (name : List ℕ) (at : ℕ) → Suspected names ds marks → false ≡ marked_name names marks name →
-    first ≡ least_from first (place_if (is_circular_by ds name) at)
-not_suspected first names ds marks name at s none =
-    let not_circular : is_circular_by ds name ≡ false = false_from_ne_true (is_circular_by ds name) (λ h. let e : false ≡ true = none ∙ s name h in absurd (cc e)) in
-    ap (λ b. least_from first (place_if b at)) (sym not_circular)
 
 -- ---- what was gathered and what the definitions look at
 

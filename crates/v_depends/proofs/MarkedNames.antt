@@ -1,20 +1,19 @@
 -- The marks that a walk leaves are those of the names which depend on one of the given names.
-use Rattle.std.proofs.Common.{◌≡◌, ◌<◌, ◌≤◌, ℕ, zero, suc, List, [], ◌∷◌, ◌++◌, length, get_or, set, replicate, Bool, true, false, Option, None, Some, refl, sym, ap, subst, ◌∙◌, inl, inr, ◌⊎◌, arith}
+use Rattle.std.proofs.Common.{◌≡◌, ◌<◌, ◌≤◌, ℕ, zero, suc, List, [], ◌∷◌, ◌++◌, length, get_or, set, Bool, true, false, Option, None, Some, refl, sym, ap, subst, ◌∙◌, inl, inr, arith}
 use Rattle.std.specs.Prelude.{◌||◌, ◌==◌, is_some, bytes_eq}
-use Rattle.std.specs.List.{list_any}
-use Rattle.std.proofs.lemmas.Bool.{eqb-true, eq-eqb, cases_lt, false_from_ne_true, or_cases, or_left}
-use Rattle.std.proofs.lemmas.List.{get_or_past, length-set, length-replicate}
+use Rattle.std.proofs.lemmas.Bool.{eqb-true, eq-eqb, cases_lt, false_from_ne_true}
+use Rattle.std.proofs.lemmas.List.{get_or_past, length-set}
 use Rattle.lz_base.specs.Names.{is_among}
-use Rattle.v_meaning.specs.ProcessRules.{Dependence, direct, depends_in}
+use Rattle.v_meaning.specs.ProcessRules.{Dependence, depends_in}
 use Rattle.v_depends.specs.declared.graph.Graph.{Graph}
 use Rattle.v_depends.specs.Pairs.{pairs_of, depends_by, is_circular_by, follows}
-use Rattle.v_depends.specs.Graphs.{place, Numbers, IsEdge, IsGraph, at_place, marked_name, AreMarked, Followers, Suspected}
+use Rattle.v_depends.specs.Graphs.{place, IsGraph, at_place, marked_name, AreMarked, Followers, Suspected}
 use Rattle.v_depends.specs.Nodes.{is_in, is_marked, row, sources, starts_of, IsClosed, IsReached, IsSuspect}
-use Rattle.v_depends.proofs.Membership.{In, any_in, any_out, bytes_same, bytes_self}
+use Rattle.v_depends.proofs.Membership.{swap, any_in, any_out, bytes_same, bytes_self}
 use Rattle.v_depends.proofs.Steps.{step_out, depends_direct, depends_on}
 use Rattle.v_depends.proofs.Places.{place_there}
 use Rattle.v_depends.proofs.Edges.{pair_in, pair_out, edge_of, pair_of, of_all, source_in, source_out, start_in, start_out}
-use Rattle.v_depends.proofs.Walks.{none_marked, set_mark, marked_below}
+use Rattle.v_depends.proofs.Walks.{set_mark}
 
 both_or_neither : (a b : Bool) → (a ≡ true → b ≡ true) → (b ≡ true → a ≡ true) → a ≡ b
 both_or_neither true b to from = sym (to refl)
@@ -35,21 +34,6 @@ named_at names a b i p q = sym (place_there names a i p).0 ∙ (place_there name
 among_push : (q key : List ℕ) (names : List (List ℕ)) → is_among q (names ++ key ∷ []) ≡ (bytes_eq key q || is_among q names)
 among_push q key [] = refl
 among_push q key (other ∷ names) = ap (λ b. bytes_eq other q || b) (among_push q key names) ∙ swap (bytes_eq other q) (bytes_eq key q) (is_among q names)
-  where
-    swap : (a b c : Bool) → (a || (b || c)) ≡ (b || (a || c))
-    swap true true c = refl
-    swap true false c = refl
-    swap false b c = refl
-
-unmarked_case : (n : ℕ) (r : Option ℕ) → at_place (replicate n false) r ≡ false
-unmarked_case n None = refl
-unmarked_case n (Some i) = none_marked n i
-
-pub none_are : (names : List (List ℕ)) (marks : List Bool) (n : ℕ) → marks ≡ replicate n false → n ≡ length names → AreMarked names marks []
-none_are names marks n is count = record {
-  long = ap length is ∙ length-replicate n false ∙ count;
-  each = λ name there. ap (λ l. marked_name names l name) is ∙ unmarked_case n (place names name);
-}
 
 there_case : (r : Option ℕ) → is_some r ≡ true → (i : ℕ) × (r ≡ Some i)
 there_case None h = absurd (cc h)

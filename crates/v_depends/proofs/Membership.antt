@@ -7,6 +7,13 @@ use Rattle.std.proofs.lemmas.Slice.Eq.{bytes_eq-Decides}
 use Rattle.lz_base.specs.Names.{is_among}
 use Rattle.v_depends.specs.Nodes.{is_in}
 
+-- ---- tests
+
+pub swap : (a b c : Bool) → (a || (b || c)) ≡ (b || (a || c))
+swap true true c = refl
+swap true false c = refl
+swap false b c = refl
+
 -- ---- names
 
 pub bytes_same : (a b : List ℕ) → bytes_eq a b ≡ true → a ≡ b

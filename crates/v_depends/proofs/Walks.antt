@@ -1,14 +1,14 @@
 -- What a walk has reached: the marked nodes, in the order in which they were reached.
-use Rattle.std.proofs.Common.{◌≡◌, ◌≢◌, ◌<◌, ◌≤◌, ◌+◌, ◌*◌, ℕ, zero, suc, List, [], ◌∷◌, ◌++◌, length, get_or, set, take, replicate, Bool, true, false, not, cond, refl, sym, ap, subst, ◌∙◌, inl, inr, ◌⊎◌, append_assoc, arith}
+use Rattle.std.proofs.Common.{◌≡◌, ◌<◌, ◌≤◌, ◌+◌, ◌*◌, ℕ, zero, suc, List, [], ◌∷◌, ◌++◌, length, get_or, set, take, replicate, Bool, true, false, not, cond, refl, sym, ap, subst, ◌∙◌, inl, inr, append_assoc, arith}
 use Rattle.std.specs.Prelude.{◌||◌, ◌==◌}
 use Rattle.std.specs.List.{count_by}
-use Rattle.std.proofs.lemmas.Bool.{cases_eq, eqb-true, eq-eqb, ne_eqb, or_cases, or_left, or_right, cases_lt, false_from_ne_true}
-use Rattle.std.proofs.lemmas.List.{append-nil, get_or-set_same, get_or-set_other, get_or_past, length-set, length_push, length-append, length-replicate, set_past, take_all, take_more, take-append-le}
+use Rattle.std.proofs.lemmas.Bool.{cases_eq, eq-eqb, ne_eqb, or_left, or_right, cases_lt}
+use Rattle.std.proofs.lemmas.List.{get_or-set_same, get_or-set_other, length-set, length_push, length-append, length-replicate, set_past, take_more, take-append-le}
 use Rattle.std.proofs.lemmas.List.Folds.{sum_by-replicate}
 use Rattle.std.proofs.lemmas.List.Sums.{sum_by-set}
 use Rattle.v_depends.specs.declared.walking.Reached.{Reached}
-use Rattle.v_depends.specs.Nodes.{is_in, is_marked, row, Marked, Adds, IsClosed, IsReached}
-use Rattle.v_depends.proofs.Membership.{in_left, in_right, in_cases, in_one}
+use Rattle.v_depends.specs.Nodes.{is_in, is_marked, row, Marked, Adds, IsClosed}
+use Rattle.v_depends.proofs.Membership.{swap, in_left, in_right, in_cases, in_one}
 
 -- ---- marks
 
@@ -43,11 +43,6 @@ none_marked (suc n) (suc node) = none_marked n node
 none_counted : (n : ℕ) → count_by not (replicate n false) ≡ n
 none_counted n = let e : count_by not (replicate n false) ≡ n * 1 = sum_by-replicate (λ x. cond (not x) 1 0) n false in omega (arith, e)
 
-swap : (a b c : Bool) → (a || (b || c)) ≡ (b || (a || c))
-swap true true c = refl
-swap true false c = refl
-swap false b c = refl
-
 in_push : (node new : ℕ) (ns : List ℕ) → is_in node (ns ++ new ∷ []) ≡ (new == node || is_in node ns)
 in_push node new [] = refl
 in_push node new (n ∷ ns) = ap (λ b. n == node || b) (in_push node new ns) ∙ swap (n == node) (new == node) (is_in node ns)
@@ -80,23 +75,6 @@ adds_one bound node before after is = record {
   all = λ other h below. ap (is_in other) is ∙ in_right other before (node ∷ []) h;
 }
 
-pub adds_none : (r : Reached) (node : ℕ) → (node < length r.marks → is_marked r.marks node ≡ true) → Marked r → Adds (length r.marks) r.order.items (node ∷ []) r.order.items
-adds_none r node known m = record {
-  more = [];
-  behind = sym (append-nil r.order.items);
-  from = λ other h. absurd (cc h);
-  all = λ other h below. let same : node ≡ other = in_one other node h in
-      sym (m.same other) ∙ ap (is_marked r.marks) (sym same) ∙ known (subst (λ n. n < length r.marks) (sym same) below);
-}
-
-pub adds_nothing : (bound : ℕ) (before : List ℕ) → Adds bound before [] before
-adds_nothing bound before = record {
-  more = [];
-  behind = sym (append-nil before);
-  from = λ other h. h;
-  all = λ other h below. absurd (cc h);
-}
-
 pub adds_then : (bound : ℕ) (a b c xs ys : List ℕ) → Adds bound a xs b → Adds bound b ys c → Adds bound a (xs ++ ys) c
 adds_then bound a b c xs ys p q = record {
   more = p.more ++ q.more;
@@ -114,9 +92,6 @@ adds_then bound a b c xs ys p q = record {
 pub adds_next : (bound same : ℕ) (a b c nodes : List ℕ) (i : ℕ) → i < length nodes → same ≡ bound → Adds bound a (take i nodes) b → Adds same b (get_or nodes i 0 ∷ []) c → Adds bound a (take (i + 1) nodes) c
 adds_next bound same a b c nodes i within e p q =
     subst (λ ns. Adds bound a ns c) (sym (take_more nodes i 0 within)) (adds_then bound a b c (take i nodes) (get_or nodes i 0 ∷ []) p (subst (λ n. Adds n b (get_or nodes i 0 ∷ []) c) e q))
-
-pub adds_all : (bound : ℕ) (a b nodes : List ℕ) (i : ℕ) → length nodes ≤ i → Adds bound a (take i nodes) b → Adds bound a nodes b
-adds_all bound a b nodes i done p = subst (λ ns. Adds bound a ns b) (take_all i nodes done) p
 
 -- ---- the walk
 
@@ -171,13 +146,3 @@ walks_next rows starts r s next d nodes within is m long a w =
       ];
     }
 
-pub walks_end : (rows : List (List ℕ)) (starts : List ℕ) (r : Reached) (next : ℕ) → length r.order.items ≤ next → Walks rows starts r next → IsReached rows starts r.marks
-walks_end rows starts r next done w = record {
-  long = w.long;
-  closed = record {
-    begins = λ node h below. w.marked.same node ∙ w.begins node h below;
-    goes = λ node on h along below. w.marked.same on
-        ∙ w.goes node on (ap (is_in node) (take_all next r.order.items done) ∙ sym (w.marked.same node) ∙ h) along below;
-  };
-  least = λ holds closed node h. w.least holds closed node (sym (w.marked.same node) ∙ h);
-}

@@ -1,5 +1,5 @@
 -- Names that have numbers, and the edges between numbers.
-use Rattle.std.specs.Prelude.{◌≡◌, ℕ, suc, List, [], ◌∷◌, ◌++◌, length, Bool, false, true, if◌then◌else◌, is_some, Option, None, Some, slice_index_or, bytes_eq, ⊤}
+use Rattle.std.specs.Prelude.{◌≡◌, ℕ, suc, List, [], ◌∷◌, ◌++◌, length, Bool, false, true, if◌then◌else◌, is_some, Option, None, Some, slice_index_or, bytes_eq}
 use Rattle.std.specs.Borrow.{Bor}
 use Rattle.std.specs.Ordering.{nat_cmp}
 use Rattle.std.specs.Cmp.Lexicographic.{slice_cmp}

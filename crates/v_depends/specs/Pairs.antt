@@ -1,7 +1,6 @@
 -- What assigns say of dependence, by what was seen of them: which name depends directly on which, and what follows.
-use Rattle.std.specs.Prelude.{ℕ, List, [], ◌∷◌, ◌++◌, map, flat_map, filter, length, Bool}
+use Rattle.std.specs.Prelude.{ℕ, List, [], ◌∷◌, ◌++◌, map, filter, length, Bool}
 use Rattle.std.specs.List.{list_any}
-use Rattle.v_syntax.specs.declared.token.Ident.{Ident}
 use Rattle.v_meaning.specs.ProcessRules.{Dependence, Written, depends_in, ident_names, is_blocking}
 use Rattle.v_uses.specs.Seen.{AssignSeen, ProcessSeen}
 

@@ -8,7 +8,7 @@ use lz_base::{Items, OutOfMemory};
 use std::alloc::Global;
 
 // A step of a walk in depth: to a node, or back from it.
-#[derive(Clone, Copy, Debug)]
+#[derive(Clone, Copy)]
 enum Step {
     To(usize),
     From(usize),
@@ -128,7 +128,7 @@ fn reversed(alloc: Global, edges: &[(usize, usize)]) -> Result<Vec<(usize, usize
 }
 
 // A level for each node: one for each strongly connected component, which is higher than those of all components to which
-// edges lead. No clause says so, since who calls it looks whether the levels rise along an edge.
+// edges lead. No clause says so: `falling_levels` looks whether no level rises along an edge.
 fn component_levels(
     alloc: Global,
     count: usize,

@@ -1,4 +1,4 @@
-use Rattle.std.proofs.Common.{ℕ, List, subst, sym, take}
+use Rattle.std.proofs.Common.{subst, sym, take}
 use Rattle.v_depends.specs.Graphs.{IsSomeGraph}
 use Rattle.v_depends.proofs.Gathering.{assign_pairs, assign_pairs_more, from_next}
 use Rattle.v_depends.proofs.graph.graph_of.Goals as goal

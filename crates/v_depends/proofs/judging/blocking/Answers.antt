@@ -1,4 +1,4 @@
-use Rattle.std.proofs.Common.{List, [], ◌∷◌, ◌++◌, flat_map, map, take, ap, subst, ◌∙◌, sym}
+use Rattle.std.proofs.Common.{List, ◌++◌, flat_map, map, take, ap, subst, ◌∙◌, sym}
 use Rattle.std.proofs.lemmas.List.{append-nil}
 use Rattle.v_uses.specs.declared.gathered.ProcessUses.{ProcessUses}
 use Rattle.v_uses.specs.Gathered.{process_in}

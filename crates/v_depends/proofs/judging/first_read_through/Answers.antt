@@ -1,4 +1,4 @@
-use Rattle.std.proofs.Common.{None, ℕ, List, ap, flat_map, map, ◌∙◌}
+use Rattle.std.proofs.Common.{None, List, ap, flat_map, map, ◌∙◌}
 use Rattle.v_meaning.specs.ProcessRules.{places_if}
 use Rattle.v_scope.specs.Firsts.{least_from}
 use Rattle.v_uses.specs.declared.gathered.AssignUses.{AssignUses}

@@ -1,5 +1,5 @@
 use Rattle.std.proofs.Common.{length}
-use Rattle.v_depends.proofs.Walks.{adds_none, adds_one, marked_more}
+use Rattle.v_depends.proofs.Walks.{adds_one, marked_more}
 use Rattle.v_depends.proofs.walking.reach.Goals as goal
 
 pub returns-in_ok-push-clause-marked : goal.returns-in_ok-push-clause-marked
@@ -9,6 +9,3 @@ returns-in_ok-push-clause-marked c = λ m.
 
 pub returns-in_ok-push-clause-adds : goal.returns-in_ok-push-clause-adds
 returns-in_ok-push-clause-adds c = λ m. adds_one (length c.args.reached.now.marks) c.args.node c.args.reached.now.order.items _ c.in_ok-push.ensures.items
-
-pub returns-else-lacks-clause-adds : goal.returns-else-lacks-clause-adds
-returns-else-lacks-clause-adds c = λ m. adds_none c.args.reached.now c.args.node (c.lacks.ensures.marked c.if-lacks.false) m

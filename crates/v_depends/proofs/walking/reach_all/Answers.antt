@@ -1,9 +1,6 @@
-use Rattle.std.proofs.Common.{◌∙◌, refl, length}
-use Rattle.v_depends.proofs.Walks.{adds_nothing, adds_next, adds_all}
+use Rattle.std.proofs.Common.{◌∙◌}
+use Rattle.v_depends.proofs.Walks.{adds_next}
 use Rattle.v_depends.proofs.walking.reach_all.Goals as goal
-
-pub loop-node-init : goal.loop-node-init
-loop-node-init c = record { marked = λ m. m; long = refl; adds = λ m. adds_nothing (length c.args.reached.now.marks) c.args.reached.now.order.items }
 
 pub loop-node-preserved : goal.loop-node-preserved
 loop-node-preserved c = record {
@@ -12,6 +9,3 @@ loop-node-preserved c = record {
   adds = λ m. adds_next _ _ _ _ _ c.args.nodes.now c.loop-node.node-index c.loop-node-test.true c.loop-node.invariant.long (c.loop-node.invariant.adds m)
       (c.in_ok-reach.ensures.adds (c.loop-node.invariant.marked m));
 }
-
-pub returns-clause-adds : goal.returns-clause-adds
-returns-clause-adds c = λ m. adds_all _ _ _ c.args.nodes.now c.loop-node.node-index c.loop-node-test.false (c.loop-node.invariant.adds m)

@@ -1,7 +1,7 @@
 use Rattle.std.proofs.Common.{◌<◌, length, false, ap, ◌∙◌, arith}
 use Rattle.std.proofs.lemmas.List.{get_or_read, length-replicate}
 use Rattle.v_depends.specs.Nodes.{row}
-use Rattle.v_depends.proofs.Walks.{marked_begin, walks_begin, walks_end, walks_next}
+use Rattle.v_depends.proofs.Walks.{marked_begin, walks_begin, walks_next}
 use Rattle.v_depends.proofs.walking.reached_from.Goals as goal
 
 pub loop-next-init : goal.loop-next-init
@@ -18,6 +18,3 @@ loop-next-preserved c =
     walks_next c.args.rows.now c.args.starts.now c.loop-next.reached c.reach_all-in-loop-next.new.reached c.loop-next.next 0 c.row_of.result.now within
     (c.row_of.ensures ∙ ap (row c.args.rows.now) (get_or_read order.items c.loop-next.next _ within c.index-node.ensures 0)) (c.in_ok-reach_all-2.ensures.marked walks.marked)
     c.in_ok-reach_all-2.ensures.long (c.in_ok-reach_all-2.ensures.adds walks.marked) walks
-
-pub returns : goal.returns
-returns c = walks_end c.args.rows.now c.args.starts.now c.loop-next.reached c.loop-next.next (omega (arith, c.loop-next-test.false, c.len.ensures, c.loop-next.reached.order.ok.0)) c.loop-next.invariant

@@ -44,9 +44,9 @@ pub pair_out : (ds : List Dependence) (x y : List ℕ) → In (x, y) (pairs_of d
 pair_out [] x y h = absurd h
 pair_out (d ∷ ds) x y h = elim (In_cases (x, y) (pairs_with d.name d.on) (pairs_of ds) h) [
   | inl here ↦ (
-    let r = with_out d.name x y d.on here in
-    among_left y (if bytes_eq d.name x then d.on else []) (direct ds x) (ap (λ (b : Bool). is_among y (if b then d.on else [])) (bytes_self d.name x r.0) ∙ r.1)
-  )
+      let r = with_out d.name x y d.on here in
+      among_left y (if bytes_eq d.name x then d.on else []) (direct ds x) (ap (λ (b : Bool). is_among y (if b then d.on else [])) (bytes_self d.name x r.0) ∙ r.1)
+      )
   | inr there ↦ among_right y (if bytes_eq d.name x then d.on else []) (direct ds x) (pair_out ds x y there)
 ]
 

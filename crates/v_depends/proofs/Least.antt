@@ -47,7 +47,7 @@ dependences_are g u is clocked =
     ap (λ (s : Seen). dependences_of s.assigns) is ∙ dependences_same u.assigns
     ∙ sym (append-nil (map (λ (x : AssignUse). record { name = x.target.name; on = ident_names (reads_in x.reads) }) u.assigns))
     ∙ sym (ap (λ (ps : List ProcessUse). map (λ (x : AssignUse). record { name = x.target.name; on = ident_names (reads_in x.reads) }) u.assigns
-        ++ flat_map (λ (p : ProcessUse). map (λ name. record { name = name; on = outside_reads p }) (settled_by u p)) ps) clocked)
+    ++ flat_map (λ (p : ProcessUse). map (λ name. record { name = name; on = outside_reads p }) (settled_by u p)) ps) clocked)
 
 targets_seen : (assigns : List AssignUse) → map (λ (a : AssignSeen). a.target) (map assign_seen assigns) ≡ map (λ (x : AssignUse). x.target) assigns
 targets_seen [] = refl

@@ -47,8 +47,8 @@ marks_more names ons before after new i at is m = record {
       let j = there_case (place names name) there in
       let within : i < length before = omega (arith, (place_there names new i at).1, m.long) in
       let same : (i == j.0) ≡ bytes_eq new name = both_or_neither (i == j.0) (bytes_eq new name)
-              (λ e. bytes_self new name (named_at names new name i at (j.1 ∙ ap Some (sym (eqb-true i j.0 e)))))
-              (λ e. let k : Some i ≡ Some j.0 = sym at ∙ ap (place names) (bytes_same new name e) ∙ j.1 in let n : i ≡ j.0 = cc in eq-eqb i j.0 n) in
+      (λ e. bytes_self new name (named_at names new name i at (j.1 ∙ ap Some (sym (eqb-true i j.0 e)))))
+      (λ e. let k : Some i ≡ Some j.0 = sym at ∙ ap (place names) (bytes_same new name e) ∙ j.1 in let n : i ≡ j.0 = cc in eq-eqb i j.0 n) in
       marked_at names after name j.0 j.1 ∙ ap (λ l. is_marked l j.0) is ∙ set_mark before i j.0 within ∙ ap (λ b. b || is_marked before j.0) same
       ∙ ap (λ b. bytes_eq new name || b) (sym (marked_at names before name j.0 j.1) ∙ m.each name there) ∙ sym (among_push name new ons);
 }
@@ -59,7 +59,7 @@ marks_same names ons marks new none m = record {
   long = m.long;
   each = λ name there.
       let apart : bytes_eq new name ≡ false = false_from_ne_true (bytes_eq new name) (λ e. let h : is_some (place names new) ≡ true = ap (λ q. is_some (place names q)) (bytes_same new name e) ∙ there in
-              let f : false ≡ true = ap is_some none ∙ h in absurd (cc f)) in
+      let f : false ≡ true = ap is_some none ∙ h in absurd (cc f)) in
       m.each name there ∙ ap (λ b. b || is_among name ons) (sym apart) ∙ sym (among_push name new ons);
 }
 
@@ -67,7 +67,6 @@ marks_same names ons marks new none m = record {
 
 module _ (g : Graph) (names ons : List (List ℕ)) (ds : List Dependence) (rows : List (List ℕ)) (on marks : List Bool) (graph : IsGraph g names (pairs_of ds)) (given : AreMarked names on ons)
     (long : length rows ≡ length names) (each : (node : ℕ) → node < length rows → row rows node ≡ sources g.edges.items node) (reached : IsReached rows (starts_of on g.edges.items) marks) where
-
   -- whether the name of a node depends on one of them
   holds : ℕ → Bool
   holds node = follows ds ons (get_or names node [])
@@ -142,7 +141,6 @@ circular_is names ds name marks f = f name ∙ or_none (depends_by ds name name)
 
 module _ (g : Graph) (names : List (List ℕ)) (ds : List Dependence) (bound : ℕ) (marks : List Bool) (graph : IsGraph g names (pairs_of ds)) (suspect : IsSuspect bound g.edges.items marks)
     (count : bound ≡ length names) where
-
   level_falls : (k : ℕ) (x y : List ℕ) (i j : ℕ) → place names x ≡ Some i → place names y ≡ Some j → depends_in k ds x y ≡ true → suspect.level j ≤ suspect.level i
   level_falls zero x y i j at to h = absurd (cc h)
   level_falls (suc k) x y i j at to h =
@@ -153,10 +151,10 @@ module _ (g : Graph) (names : List (List ℕ)) (ds : List Dependence) (bound : �
       let falls : suspect.level e.0.1 ≤ suspect.level i = subst (λ n. suspect.level e.0.1 ≤ suspect.level n) here (of_all (λ f. suspect.level f.1 ≤ suspect.level f.0) g.edges.items e.0 suspect.falls e.2) in
       elim r.2 [
         | inl same ↦ (
-          let ends : Some e.0.1 ≡ Some j = sym e.1.1 ∙ ap (place names) same ∙ to in
-          let there : e.0.1 ≡ j = cc in
-          subst (λ n. suspect.level n ≤ suspect.level i) there falls
-        )
+            let ends : Some e.0.1 ≡ Some j = sym e.1.1 ∙ ap (place names) same ∙ to in
+            let there : e.0.1 ≡ j = cc in
+            subst (λ n. suspect.level n ≤ suspect.level i) there falls
+            )
         | inr on ↦ omega (arith, falls, level_falls k r.0 y e.0.1 j e.1.1 to on)
       ]
 
@@ -168,10 +166,10 @@ module _ (g : Graph) (names : List (List ℕ)) (ds : List Dependence) (bound : �
       let within : e.0.0 < bound = omega (arith, count, (place_there names x e.0.0 e.1.0).1) in
       let flat : suspect.level e.0.0 ≤ suspect.level e.0.1 = elim r.2 [
         | inl same ↦ (
-          let ends : Some e.0.1 ≡ Some e.0.0 = sym e.1.1 ∙ ap (place names) same ∙ e.1.0 in
-          let there : e.0.1 ≡ e.0.0 = cc in
-          subst (λ n. suspect.level e.0.0 ≤ suspect.level n) (sym there) (omega arith)
-        )
+            let ends : Some e.0.1 ≡ Some e.0.0 = sym e.1.1 ∙ ap (place names) same ∙ e.1.0 in
+            let there : e.0.1 ≡ e.0.0 = cc in
+            subst (λ n. suspect.level e.0.0 ≤ suspect.level n) (sym there) (omega arith)
+            )
         | inr on ↦ level_falls k r.0 x e.0.1 e.0.0 e.1.1 e.1.0 on
       ] in
       marked_at names marks x e.0.0 e.1.0 ∙ of_all (λ f. suspect.level f.0 ≤ suspect.level f.1 → f.0 < bound → is_marked marks f.0 ≡ true) g.edges.items e.0 suspect.flat e.2 flat within

@@ -104,8 +104,8 @@ number_new old new names key i was is count updates old_is long n =
       count = omega (arith, one, n.count, length_push names key.now);
     } in
     let there : place (names ++ key.now ∷ []) key.now ≡ Some i =
-            place_push names key.now key.now ∙ ap (λ (r : Option ℕ). or_else r (if bytes_eq key.now key.now then Some (length names) else None)) (sym absent)
-            ∙ ap (λ (b : Bool). if b then Some (length names) else None) (bytes_self key.now key.now refl) ∙ ap Some (sym at) in
+    place_push names key.now key.now ∙ ap (λ (r : Option ℕ). or_else r (if bytes_eq key.now key.now then Some (length names) else None)) (sym absent)
+    ∙ ap (λ (b : Bool). if b then Some (length names) else None) (bytes_self key.now key.now refl) ∙ ap Some (sym at) in
     (subst (λ (l : List (List ℕ)). Numbers new l) same numbers, ap (λ (l : List (List ℕ)). place l key.now) (sym same) ∙ there)
 
 -- an edge more, for a pair more
@@ -118,7 +118,10 @@ edge_more before between after names a b target read from to pairs edges more p 
     let m = first n in
     let k = second m.0 in
     let all = name_added (name_added names a) b in
-    let made : Numbers after all × AllZip (IsEdge all) (pairs ++ (a, b) ∷ []) more = (k.0, subst (AllZip (IsEdge all) (pairs ++ (a, b) ∷ [])) (sym is)
-        (edges_push all pairs edges (a, b) (from, to) (edges_added (name_added names a) b pairs edges (edges_added names a pairs edges h)) (place_added (name_added names a) b a from m.1, k.1))) in
+    let made : Numbers after all × AllZip (IsEdge all) (pairs ++ (a, b) ∷ []) more = (
+      k.0,
+      subst (AllZip (IsEdge all) (pairs ++ (a, b) ∷ [])) (sym is)
+          (edges_push all pairs edges (a, b) (from, to) (edges_added (name_added names a) b pairs edges (edges_added names a pairs edges h)) (place_added (name_added names a) b a from m.1, k.1)),
+    ) in
     subst (λ (y : List ℕ). Numbers after (name_added (name_added names target) y) × AllZip (IsEdge (name_added (name_added names target) y)) (pairs ++ (target, y) ∷ []) more) q
     (subst (λ (x : List ℕ). Numbers after (name_added (name_added names x) b) × AllZip (IsEdge (name_added (name_added names x) b)) (pairs ++ (x, b) ∷ []) more) p made)

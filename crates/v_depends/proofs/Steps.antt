@@ -15,11 +15,14 @@ Onward k ds z y = (z ≡ y) ⊎ (depends_in k ds z y ≡ true)
 
 pub step_out : (k : ℕ) (ds : List Dependence) (x y : List ℕ) → depends_in (suc k) ds x y ≡ true → (z : List ℕ) × (is_among z (direct ds x) ≡ true) × Onward k ds z y
 step_out k ds x y h =
-    let r = any_out (λ next. bytes_eq next y || depends_in k ds next y) (direct ds x) h in
-    (r.0, r.1, elim (or_cases (bytes_eq r.0 y) (depends_in k ds r.0 y) r.2) [
-      | inl same ↦ inl (bytes_same r.0 y same)
-      | inr on ↦ inr on
-    ])
+    let r = any_out (λ next. bytes_eq next y || depends_in k ds next y) (direct ds x) h in (
+      r.0,
+      r.1,
+      elim (or_cases (bytes_eq r.0 y) (depends_in k ds r.0 y) r.2) [
+        | inl same ↦ inl (bytes_same r.0 y same)
+        | inr on ↦ inr on
+      ],
+    )
 
 pub step_in : (k : ℕ) (ds : List Dependence) (x y z : List ℕ) → is_among z (direct ds x) ≡ true → Onward k ds z y → depends_in (suc k) ds x y ≡ true
 step_in k ds x y z h (inl same) = any_in (λ next. bytes_eq next y || depends_in k ds next y) (direct ds x) z h (or_left (bytes_eq z y) (depends_in k ds z y) (bytes_self z y same))

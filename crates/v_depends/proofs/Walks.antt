@@ -20,9 +20,9 @@ marked_below (m ∷ ms) (suc node) h = omega (arith, marked_below ms node h)
 pub set_mark : (marks : List Bool) (new node : ℕ) → new < length marks → is_marked (set marks new true) node ≡ (new == node || is_marked marks node)
 set_mark marks new node within = elim (cases_eq new node) [
   | inl same ↦ (
-    let here : is_marked (set marks new true) node ≡ true = ap (is_marked (set marks new true)) (sym same) ∙ get_or-set_same marks new true false within in
-    here ∙ sym (or_left (new == node) (is_marked marks node) (eq-eqb new node same))
-  )
+      let here : is_marked (set marks new true) node ≡ true = ap (is_marked (set marks new true)) (sym same) ∙ get_or-set_same marks new true false within in
+      here ∙ sym (or_left (new == node) (is_marked marks node) (eq-eqb new node same))
+      )
   | inr apart ↦ get_or-set_other marks new node true false (λ e. apart (sym e)) ∙ ap (λ b. b || is_marked marks node) (sym (ne_eqb new node apart))
 ]
 
@@ -59,7 +59,7 @@ pub marked_more : (r s : Reached) (node : ℕ) → node < length r.marks → is_
     s.order.items ≡ r.order.items ++ node ∷ [] → Marked r → Marked s
 marked_more r s node within new marks order m =
     let sum : count_by not (set r.marks node true) + cond (not (get_or r.marks node false)) 1 0 ≡ count_by not r.marks + 0 =
-            sum_by-set (λ x. cond (not x) 1 0) r.marks node true false within in
+    sum_by-set (λ x. cond (not x) 1 0) r.marks node true false within in
     let one : ◌≡◌ {A = ℕ} (cond (not (get_or r.marks node false)) 1 0) 1 = ap (λ (b : Bool). let n : ℕ = cond (not b) 1 0 in n) new in
     record {
       same = λ other. ap (λ l. is_marked l other) marks ∙ set_mark r.marks node other within ∙ ap (λ b. node == other || b) (m.same other)
@@ -129,7 +129,7 @@ pub walks_next : (rows : List (List ℕ)) (starts : List ℕ) (r s : Reached) (n
 walks_next rows starts r s next d nodes within is m long a w =
     let bound : length s.marks ≡ length rows = long ∙ w.long in
     let front : take (next + 1) s.order.items ≡ take next r.order.items ++ get_or r.order.items next d ∷ [] =
-            ap (take (next + 1)) a.behind ∙ take-append-le (next + 1) r.order.items a.more (omega arith) ∙ take_more r.order.items next d within in
+    ap (take (next + 1)) a.behind ∙ take-append-le (next + 1) r.order.items a.more (omega arith) ∙ take_more r.order.items next d within in
     record {
       marked = m;
       long = bound;
@@ -145,4 +145,3 @@ walks_next rows starts r s next d nodes within is m long a w =
             (ap (is_in node) (sym is) ∙ a.from node new) (reached_below s node (length rows) m bound h)
       ];
     }
-

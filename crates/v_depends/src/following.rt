@@ -13,11 +13,7 @@ use lz_base::OutOfMemory;
 use std::alloc::Global;
 
 // From where an edge comes, if it leads to a marked node.
-fn add_start(
-    nodes: &mut Vec<usize>,
-    edge: (usize, usize),
-    on: &Marks,
-) -> Result<(), OutOfMemory>
+fn add_start(nodes: &mut Vec<usize>, edge: (usize, usize), on: &Marks) -> Result<(), OutOfMemory>
     ensures { OnOk result (nodes.new.items ≡ nodes.old.items ++ starts_of on.now (edge ∷ [])) }
 {
     if on.has(edge.1) {
@@ -55,11 +51,7 @@ pub(crate) fn mark_name(graph: &Graph<'_>, marks: &mut Marks, name: &[u8])
 }
 
 /// Marks the names that depend on marked ones.
-pub(crate) fn dependents(
-    alloc: Global,
-    graph: &Graph<'_>,
-    on: &Marks,
-) -> Result<Marks, OutOfMemory>
+pub(crate) fn dependents(alloc: Global, graph: &Graph<'_>, on: &Marks) -> Result<Marks, OutOfMemory>
     ensures { IfOk result (λ marks. (names ons : List (List ℕ)) (ds : List Dependence) → IsGraph graph.now names (pairs_of ds) → AreMarked names on.now ons → Followers names ds ons marks) }
 {
     let edges = graph.edges.as_slice();

@@ -18,10 +18,7 @@ pub struct Graph<'a> {
 }
 
 // The number of a name, which is a new one where the name has none.
-fn number<'a>(
-    numbers: &mut BTreeMap<&'a [u8], usize>,
-    name: &'a [u8],
-) -> Result<usize, OutOfMemory>
+fn number<'a>(numbers: &mut BTreeMap<&'a [u8], usize>, name: &'a [u8]) -> Result<usize, OutOfMemory>
     ensures { IfOk result (λ i. (names : List (List ℕ)) → Numbers numbers.old names → Numbers numbers.new (name_added names name.now) × (place (name_added names name.now) name.now ≡ Some i)) }
 {
     match numbers.get(name) {
@@ -35,7 +32,11 @@ fn number<'a>(
 }
 
 // One read more of an assign.
-fn add_read<'a>(graph: &mut Graph<'a>, target: &'a Ident, read: &'a Ident) -> Result<(), OutOfMemory>
+fn add_read<'a>(
+    graph: &mut Graph<'a>,
+    target: &'a Ident,
+    read: &'a Ident,
+) -> Result<(), OutOfMemory>
     ensures { OnOk result ((names : List (List ℕ)) (pairs : List (List ℕ × List ℕ)) → IsGraph graph.old names pairs → IsGraph graph.new (name_added (name_added names target.now.name) read.now.name) (pairs ++ (target.now.name, read.now.name) ∷ [])) }
 {
     let from = number(&mut graph.numbers, target.name.bytes())?;

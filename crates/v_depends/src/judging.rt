@@ -126,12 +126,7 @@ fn blocking(
 }
 
 // Judges the reads of a process, where the names that break the rule are marked.
-fn note_reads(
-    graph: &Graph<'_>,
-    marks: &Marks,
-    reads: &[&Ident],
-    first: Option<u64>,
-) -> Option<u64>
+fn note_reads(graph: &Graph<'_>, marks: &Marks, reads: &[&Ident], first: Option<u64>) -> Option<u64>
     ensures { (names ons : List (List ℕ)) (ds : List Dependence) → Numbers graph.now.numbers names → Followers names ds ons marks.now → result ≡ least_from first (places_if (follows ds ons) (map (λ r. r.now) reads.now)) }
 {
     let mut first = first;

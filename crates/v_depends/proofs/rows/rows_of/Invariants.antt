@@ -5,5 +5,5 @@ use Rattle.v_depends.proofs.rows.rows_of.Given as goal
 abbrev pub invariant-loop-edge : goal.invariant-loop-edge
 invariant-loop-edge l = record {
   long : length l.rows.items ≡ l.count;
-  each : (node : ℕ) → node < l.count → row l.rows.items node ≡ sources (take l.edge-index l.edges) node
+  each : (node : ℕ) → node < l.count → row l.rows.items node ≡ sources (take l.edge-index l.edges) node;
 }

@@ -1,6 +1,6 @@
-ghost use Rattle.std.specs.Prelude.{◌≡◌, ◌≤◌, ◌<◌, ◌+◌, ◌-◌, if◌then◌else◌, true, map, IfOk, Some, is_some};
+ghost use Rattle.std.specs.Prelude.{◌≡◌, ◌≤◌, ◌<◌, ◌+◌, if◌then◌else◌, true, map, IfOk};
 ghost use Rattle.v_meaning.specs.Senses.{index_of};
-ghost use Rattle.v_meaning.specs.Names.{entry_of, or_zero, span};
+ghost use Rattle.v_meaning.specs.Names.{entry_of, or_zero};
 ghost use Rattle.v_meaning.specs.Proper.{is_part, proper_value};
 ghost use Rattle.v_meaning.specs.Targets.{whole_target, selected_target, part_target, target_of, parts_width};
 ghost use Rattle.v_core.specs.Bodies.{sense_in};
@@ -10,12 +10,11 @@ ghost use Rattle.v_statements.specs.Measured.{IsTarget, is_memory, joined_target
 use crate::making;
 use lz_base::{Items, OutOfMemory};
 use std::alloc::Global;
-use v_constants::proper_value;
 use v_core::{Open, TypedTarget};
 use v_meaning::Kind;
 use v_names::{Names, Sites};
 use v_syntax::{Expr, Ident, Target};
-use v_typing::{opened, own};
+use v_typing::{bound, offset, opened, own, span};
 
 /// A typed target, and how many bits it has.
 #[derive(Drop)]
@@ -63,24 +62,6 @@ fn selected(
     Ok(MeasuredTarget { width, target })
 }
 
-// How many bits there are from the most to the least significant one.
-fn span(msb: u128, lsb: u128) -> u32
-    requires descends { lsb ≤ msb }
-    requires within { msb < lsb + 128 }
-    ensures { result ≡ span msb lsb }
-{
-    (msb - lsb + 1) as u32
-}
-
-// How far a bit is from the lowest one.
-fn offset(lsb: u128, low: u32) -> u32
-    requires above { low ≤ lsb }
-    requires within { lsb < low + 128 }
-    ensures { result ≡ lsb - low }
-{
-    (lsb - low as u128) as u32
-}
-
 // A part of a variable, whose bounds descend within the declared range (5.2.1).
 fn part(names: &Names, ident: &Ident, msb: u128, lsb: u128) -> MeasuredTarget
     requires above { (entry_of names.now ident.now.name).low ≤ lsb }
@@ -93,17 +74,6 @@ fn part(names: &Names, ident: &Ident, msb: u128, lsb: u128) -> MeasuredTarget
     let low = offset(lsb, known.low);
     let target = making::part(known.number, ident.at, low, width);
     MeasuredTarget { width, target }
-}
-
-// The number of a bound.
-fn bound(alloc: Global, names: &Names, x: &Expr) -> Result<u128, OutOfMemory>
-    requires { is_some (proper_value names.now x.now) ≡ true }
-    ensures { IfOk result (λ n. proper_value names.now x.now ≡ Some n) }
-{
-    match proper_value(alloc, names, x)? {
-        Some(n) => Ok(n),
-        None => unreachable!(),
-    }
 }
 
 // A part between proper bounds. `OutOfMemory` is the only other answer, here and below.

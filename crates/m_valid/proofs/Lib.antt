@@ -1,0 +1,9 @@
+pub mod Lists
+pub mod Numbering
+pub mod Flagging
+pub mod Marking
+pub mod Bits
+pub mod Downwards
+pub mod Paths
+pub mod Judging
+pub mod Turns

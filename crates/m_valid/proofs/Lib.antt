@@ -7,3 +7,4 @@ pub mod Downwards
 pub mod Paths
 pub mod Judging
 pub mod Turns
+pub mod Plainly

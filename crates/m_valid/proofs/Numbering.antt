@@ -9,7 +9,7 @@ use Rattle.g_net.specs.declared.network.Gate.TheVariants as gate
 use Rattle.g_net.specs.Network as network
 use Rattle.g_net.specs.Network.{NetworkValue, IsWellFormed, ReadBackwards, first_gate, node_count}
 use Rattle.m_valid.specs.declared.nodes.Node.{Node}
-use Rattle.m_valid.specs.declared.nodes.Node.TheVariants.{Source}
+use Rattle.m_valid.specs.declared.nodes.Node.TheVariants.{Constant, Source}
 use Rattle.m_valid.specs.Nodes.{input_nodes, flip_nodes, gate_nodes, nodes_of, node_at, is_gate, ReadsBefore, AllReadBefore}
 
 -- a gate's number is that of a node
@@ -104,3 +104,42 @@ all_before n formed (suc k) =
     (sources_before 1 front gates
     (λ j. let e : first_gate n + j ≡ 1 + length front + j = omega (arith, long) in subst (λ m. ReadsBefore m (node_at gates j)) e (gates_before (first_gate n) n.gates j formed.gates))
     (no_reads (flat_map input_nodes n.inputs) (flat_map flip_nodes n.flips) (inputs_read_none n.inputs) (flips_read_none n.flips)) k)
+
+-- node 0 is the constant, and no other
+abbrev NoConstant : List Node → Type 0
+NoConstant xs = (k : ℕ) → k < length xs → node_at xs k ≡ Constant → ⊥
+
+none_joined : (xs ys : List Node) → NoConstant xs → NoConstant ys → NoConstant (xs ++ ys)
+none_joined [] ys f g k lt e = g k lt e
+none_joined (x ∷ xs) ys f g zero lt e = f zero (omega arith) e
+none_joined (x ∷ xs) ys f g (suc k) lt e = none_joined xs ys (λ j h. f (suc j) (omega (arith, h))) g k (omega (arith, lt)) e
+
+none_sources : (count : ℕ) → NoConstant (replicate count Source)
+none_sources zero k lt e = absurd (omega arith)
+none_sources (suc count) zero lt e = cc
+none_sources (suc count) (suc k) lt e = none_sources count k (omega (arith, lt)) e
+
+none_inputs : (ps : List Port) → NoConstant (flat_map input_nodes ps)
+none_inputs [] k lt e = absurd (omega arith)
+none_inputs (p ∷ ps) k lt e = none_joined (replicate p.width Source) (flat_map input_nodes ps) (none_sources p.width) (none_inputs ps) k lt e
+
+none_flips : (fs : List Flip) → NoConstant (flat_map flip_nodes fs)
+none_flips [] k lt e = absurd (omega arith)
+none_flips (f ∷ fs) zero lt e = cc
+none_flips (f ∷ fs) (suc k) lt e = none_flips fs k (omega (arith, lt)) e
+
+none_gates : (gs : List Gate) → NoConstant (flat_map gate_nodes gs)
+none_gates [] k lt e = absurd (omega arith)
+none_gates (gate.And a b ∷ gs) zero lt e = cc
+none_gates (gate.And a b ∷ gs) (suc k) lt e = none_gates gs k (omega (arith, lt)) e
+none_gates (gate.Xor a b ∷ gs) zero lt e = cc
+none_gates (gate.Xor a b ∷ gs) (suc k) lt e = none_gates gs k (omega (arith, lt)) e
+none_gates (gate.Carry a b c ∷ gs) zero lt e = cc
+none_gates (gate.Carry a b c ∷ gs) (suc zero) lt e = cc
+none_gates (gate.Carry a b c ∷ gs) (suc (suc k)) lt e = none_gates gs k (omega (arith, lt)) e
+
+pub not_constant : (n : NetworkValue) (k : ℕ) → 0 < k → k < length (nodes_of n) → node_at (nodes_of n) k ≡ Constant → ⊥
+not_constant n zero some lt e = absurd (omega arith)
+not_constant n (suc k) some lt e =
+    none_joined (flat_map input_nodes n.inputs ++ flat_map flip_nodes n.flips) (flat_map gate_nodes n.gates)
+    (none_joined (flat_map input_nodes n.inputs) (flat_map flip_nodes n.flips) (none_inputs n.inputs) (none_flips n.flips)) (none_gates n.gates) k (omega (arith, lt)) e

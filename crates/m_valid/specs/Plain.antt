@@ -1,5 +1,5 @@
 -- The plain mapping of a network: a look-up table for each of its `and` and `xor` nodes.
-use Rattle.std.specs.Prelude.{ℕ, ◌+◌, ◌/◌, ◌^◌, ◌==◌, nat_lt, zero, suc, List, [], ◌∷◌, ◌++◌, length, Bool, false, if◌then◌else◌}
+use Rattle.std.specs.Prelude.{ℕ, ◌+◌, ◌/◌, ◌^◌, ◌==◌, min, max, zero, suc, List, [], ◌∷◌, ◌++◌, length, Bool, false, if◌then◌else◌}
 use Rattle.g_net.specs.declared.proposal.Line.{Line}
 use Rattle.g_net.specs.Network.{NetworkValue}
 use Rattle.m_valid.specs.declared.nodes.Node.{Node}
@@ -13,7 +13,7 @@ but_constant node = if node == 0 then [] else node ∷ []
 
 -- the distinct nodes of two, but for the constant, in ascending order
 abbrev pub ascending : ℕ → ℕ → List ℕ
-ascending x y = if x == y then but_constant x else (if nat_lt x y then but_constant x ++ but_constant y else but_constant y ++ but_constant x)
+ascending x y = but_constant (min x y) ++ (if x == y then [] else but_constant (max x y))
 
 -- the number of so many bits
 unfoldable pub table_from : ℕ → (ℕ → Bool) → ℕ

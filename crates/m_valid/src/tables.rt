@@ -45,8 +45,8 @@ pub fn xor_table(a: u64, b: u64) -> u64
     a ^ b
 }
 
-// How many assignments so many leaves have.
-fn assignments(leaves: usize) -> u32
+/// How many assignments so many leaves have.
+pub fn assignments(leaves: usize) -> u32
     requires { leaves ≤ 6 }
     ensures count { result ≡ 2 ^ leaves }
     ensures few { result ≤ 64 }

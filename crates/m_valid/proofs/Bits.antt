@@ -102,7 +102,7 @@ agree_alike zero f g h e = refl
 agree_alike (suc n) f g h e = rw (e n (omega arith), agree_alike n f g h (λ i lt. e i (omega arith))) refl
 
 -- bit i of the low bits
-low_bit : (w a i : ℕ) → i < w → bit_at (a % 2 ^ w) i ≡ bit_at a i
+pub low_bit : (w a i : ℕ) → i < w → bit_at (a % 2 ^ w) i ≡ bit_at a i
 low_bit w a i lt =
     let some : 0 < 2 ^ w = pow_pos w in
     let whole : a / 2 ^ w * 2 ^ w + a % 2 ^ w ≡ a = omega (arith, some) in

@@ -8,3 +8,4 @@ pub mod Paths
 pub mod Judging
 pub mod Turns
 pub mod Plainly
+pub mod Cutting

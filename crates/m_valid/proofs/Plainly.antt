@@ -38,7 +38,7 @@ or_cases false b e = inr e
 both_true : (a b : Bool) → a ≡ true → b ≡ true → (a && b) ≡ true
 both_true a b e f = ap (λ t. t && b) e ∙ f
 
-is_false : (b : Bool) → (b ≡ true → ⊥) → b ≡ false
+pub is_false : (b : Bool) → (b ≡ true → ⊥) → b ≡ false
 is_false true f = absurd (f refl)
 is_false false f = refl
 
@@ -332,7 +332,7 @@ option_kind : (o : Option Bool) (x y : Bool) → (o ≡ None → x ≡ y) → or
 option_kind None x y h = h refl
 option_kind (Some b) x y h = refl
 
-leaf_assigned : (leaves : List ℕ) (assignment k : ℕ) → is_among k leaves ≡ true → assigned leaves assignment k ≡ None → ⊥
+pub leaf_assigned : (leaves : List ℕ) (assignment k : ℕ) → is_among k leaves ≡ true → assigned leaves assignment k ≡ None → ⊥
 leaf_assigned [] assignment k e none = cc
 leaf_assigned (l ∷ ls) assignment k e none = step (l == k) (is_among k ls) (assigned ls (assignment / 2) k) e none (leaf_assigned ls (assignment / 2) k)
   where

@@ -1,19 +1,23 @@
 -- A valid line's table shows its root's value, where its leaves have theirs.
-use Rattle.std.proofs.Common.{◌≡◌, ◌<◌, ◌≤◌, ◌+◌, ◌*◌, ◌/◌, ◌%◌, ◌^◌, ◌==◌, ◌&&◌, ◌||◌, ℕ, zero, suc, List, [], ◌∷◌, ◌++◌, flat_map, replicate, length, map, get_or, Bool, true, false, Option, None, Some, if◌then◌else◌, refl, ap, sym, subst, ◌∙◌, arith}
+use Rattle.std.proofs.Common.{◌≡◌, ◌<◌, ◌≤◌, ◌+◌, ◌*◌, ◌/◌, ◌%◌, ◌^◌, ◌==◌, ◌&&◌, ◌||◌, ℕ, zero, suc, List, [], ◌∷◌, ◌++◌, flat_map, replicate, length, map, get_or, Bool, true, false, Option, None, Some, if◌then◌else◌, refl, ap, sym, subst, ◌∙◌, arith, length-append}
 use Rattle.std.specs.Bool.{xor}
 use Rattle.std.proofs.lemmas.Bool.Decides.{nat_tests, eqb_tells}
 use Rattle.std.proofs.Math.Nat.{pow-suc}
 use Rattle.lz_circuit.specs.Values.{value_at}
 use Rattle.n_cells.specs.Run.{table_bit, index_of}
+use Rattle.lz_base.specs.declared.name.Port.{Port}
+use Rattle.g_net.specs.declared.network.Flip.{Flip}
 use Rattle.g_net.specs.declared.network.Gate.{Gate}
 use Rattle.g_net.specs.declared.network.Gate.TheVariants as gate
 use Rattle.g_net.specs.declared.proposal.Line.{Line}
+use Rattle.g_net.specs.Network.{NetworkValue, first_gate, node_count}
 use Rattle.g_net.specs.Run.{GatesHold}
 use Rattle.m_valid.specs.declared.nodes.Node.{Node}
 use Rattle.m_valid.specs.declared.nodes.Node.TheVariants.{Constant, Source, And, Xor}
-use Rattle.m_valid.specs.Nodes.{node_at, is_source, gate_nodes}
+use Rattle.m_valid.specs.Nodes.{nodes_of, node_at, is_source, input_nodes, flip_nodes, gate_nodes}
 use Rattle.m_valid.specs.Validity.{is_among, goes_down, ends_in, steps_from, operation, literal_of, assigned, or_else, cone_value, is_covered, has_table, root_value}
 use Rattle.m_valid.proofs.Bits.{agree_at, low_bit}
+use Rattle.m_valid.proofs.Numbering.{count_nodes, front_count}
 use Rattle.m_valid.proofs.Plainly.{leaf_assigned, is_false}
 
 -- each node but the sources has the value of its operation
@@ -146,3 +150,47 @@ gate_equations values next (gate.Carry a b c ∷ gs) (suc zero) h past e = cc
 gate_equations values next (gate.Carry a b c ∷ gs) (suc (suc j)) h past e =
     let at : next + suc (suc j) ≡ next + 2 + j = omega arith in
     ap (value_at values) at ∙ gate_equations values (next + 2) gs j h.1 (λ k le. past k (omega (arith, le))) e
+
+front_equations : (values : List Bool) (xs ys : List Node) (next : ℕ) → ((j : ℕ) → j < length xs → is_source (node_at xs j) ≡ true)
+    → ((j : ℕ) → is_source (node_at ys j) ≡ false → value_at values (next + length xs + j) ≡ operation (value_at values) (node_at ys j))
+    → (j : ℕ) → is_source (node_at (xs ++ ys) j) ≡ false → value_at values (next + j) ≡ operation (value_at values) (node_at (xs ++ ys) j)
+front_equations values [] ys next f h j e = let at : next + j ≡ next + 0 + j = omega arith in ap (value_at values) at ∙ h j e
+front_equations values (x ∷ xs) ys next f h zero e = let both : true ≡ false = sym (f 0 (omega arith)) ∙ e in cc
+front_equations values (x ∷ xs) ys next f h (suc j) e =
+    let at : next + suc j ≡ next + 1 + j = omega arith in
+    ap (value_at values) at
+    ∙ front_equations values xs ys (next + 1) (λ k lt. f (suc k) (omega (arith, lt)))
+    (λ k none. let on : next + 1 + length xs + k ≡ next + length (x ∷ xs) + k = omega arith in ap (value_at values) on ∙ h k none) j e
+
+sources_joined : (xs ys : List Node) → ((j : ℕ) → j < length xs → is_source (node_at xs j) ≡ true) → ((j : ℕ) → j < length ys → is_source (node_at ys j) ≡ true)
+    → (j : ℕ) → j < length (xs ++ ys) → is_source (node_at (xs ++ ys) j) ≡ true
+sources_joined [] ys f g j lt = g j lt
+sources_joined (x ∷ xs) ys f g zero lt = f zero (omega arith)
+sources_joined (x ∷ xs) ys f g (suc j) lt = sources_joined xs ys (λ k h. f (suc k) (omega (arith, h))) g j (omega (arith, lt))
+
+so_many_sources : (count j : ℕ) → j < length (replicate count Source) → is_source (node_at (replicate count Source) j) ≡ true
+so_many_sources zero j lt = absurd (omega arith)
+so_many_sources (suc count) zero lt = refl
+so_many_sources (suc count) (suc j) lt = so_many_sources count j (omega (arith, lt))
+
+input_sources : (ps : List Port) (j : ℕ) → j < length (flat_map input_nodes ps) → is_source (node_at (flat_map input_nodes ps) j) ≡ true
+input_sources [] j lt = absurd (omega arith)
+input_sources (p ∷ ps) j lt = sources_joined (replicate p.width Source) (flat_map input_nodes ps) (so_many_sources p.width) (input_sources ps) j lt
+
+flip_sources : (fs : List Flip) (j : ℕ) → j < length (flat_map flip_nodes fs) → is_source (node_at (flat_map flip_nodes fs) j) ≡ true
+flip_sources [] j lt = absurd (omega arith)
+flip_sources (f ∷ fs) zero lt = refl
+flip_sources (f ∷ fs) (suc j) lt = flip_sources fs j (omega (arith, lt))
+
+-- the values of a network satisfy the equations of its nodes
+pub equations_hold : (n : NetworkValue) (values : List Bool) → length values ≡ node_count n → value_at values 0 ≡ false → GatesHold values (first_gate n) n.gates → Equations (nodes_of n) values
+equations_hold n values count zeroth h zero e = zeroth
+equations_hold n values count zeroth h (suc j) e =
+    let front = flat_map input_nodes n.inputs ++ flat_map flip_nodes n.flips in
+    let gates = flat_map gate_nodes n.gates in
+    let long : 1 + length front ≡ first_gate n = front_count n in
+    let at : suc j ≡ 1 + j = omega arith in
+    ap (value_at values) at
+    ∙ front_equations values front gates 1 (sources_joined (flat_map input_nodes n.inputs) (flat_map flip_nodes n.flips) (input_sources n.inputs) (flip_sources n.flips))
+    (λ k none. ap (λ m. value_at values (m + k)) long
+    ∙ gate_equations values (first_gate n) n.gates k h (λ i le. beyond values i (omega (arith, count, count_nodes n, length-append front gates, long, le))) none) j e

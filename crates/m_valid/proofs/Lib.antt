@@ -9,3 +9,4 @@ pub mod Judging
 pub mod Turns
 pub mod Plainly
 pub mod Cutting
+pub mod Assembling

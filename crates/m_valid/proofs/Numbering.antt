@@ -43,6 +43,9 @@ count_nodes n =
       gate_count n.gates,
     )
 
+pub front_count : (n : NetworkValue) → 1 + length (flat_map input_nodes n.inputs ++ flat_map flip_nodes n.flips) ≡ first_gate n
+front_count n = omega (arith, length-append (flat_map input_nodes n.inputs) (flat_map flip_nodes n.flips), input_count n.inputs, flip_count n.flips)
+
 -- the nodes of gates, of which the first has this number, read nodes before them
 gates_before : (next : ℕ) (gs : List Gate) (k : ℕ) → ReadBackwards next gs → ReadsBefore (next + k) (node_at (flat_map gate_nodes gs) k)
 gates_before next [] k h = tt

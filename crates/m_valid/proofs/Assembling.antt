@@ -1,0 +1,164 @@
+-- What is assembled shows the values of the nodes.
+use Rattle.std.proofs.Common.{◌≡◌, ◌≢◌, ◌<◌, ◌≤◌, ◌+◌, ◌-◌, ◌*◌, ◌/◌, ◌%◌, ◌^◌, ◌==◌, ◌&&◌, ◌||◌, ◌⊎◌, ℕ, zero, suc, List, [], ◌∷◌, ◌++◌, length, map, get_or, Bool, true, false, not, Option, None, Some, if◌then◌else◌, refl, ap, sym, subst, ◌∙◌, arith, add-zero, append_assoc, length-append, inl, inr}
+use mathlib.Core.Bool.{xor}
+use Rattle.std.proofs.Math.Seq.{get_or-append_seam}
+use Rattle.std.proofs.lemmas.List.{get_or_append_left, get_or-append-add}
+use Rattle.std.proofs.lemmas.Bool.Decides.{eqb_tells}
+use Rattle.lz_circuit.specs.Values.{value_at, majority}
+use Rattle.n_cells.specs.declared.netlist.Stored.{Stored}
+use Rattle.n_cells.specs.declared.netlist.Stored.TheVariants as stored
+use Rattle.n_cells.specs.Run.{table_bit, index_of}
+use Rattle.n_cells.specs.Walk.{all_values, cell_values}
+use Rattle.g_net.specs.Run.{literal_value}
+use Rattle.g_net.specs.declared.proposal.Line.{Line}
+use Rattle.m_valid.specs.declared.nodes.Node.{Node}
+use Rattle.m_valid.specs.Nodes.{node_at, is_gate}
+use Rattle.m_valid.specs.Assembly.{Assembled, is_inverted, with_inverter, net_of, with_inverters, nets_of, line_of, with_root, with_carry, with_sum}
+use Rattle.m_valid.specs.Validity.{is_among}
+use Rattle.m_valid.proofs.Cutting.{index_moved}
+
+-- a node that is no gate, or a root
+abbrev pub has_net : List Node → List ℕ → ℕ → Bool
+has_net nodes roots k = not (is_gate (node_at nodes k)) || is_among k roots
+
+-- the values of the nets so far
+abbrev pub shown_by : List Bool → Assembled → List Bool
+shown_by front m = all_values front m.cells
+
+pub record Shows (nodes : List Node) (roots : List ℕ) (values front : List Bool) (m : Assembled) : Type 0 where
+  pub count : length (shown_by front m) ≡ m.next
+  pub one : value_at (shown_by front m) 1 ≡ true
+  pub two : 2 ≤ m.next
+  pub there : (k : ℕ) → k < length m.nets → get_or m.nets k 0 < m.next
+  pub equal : (k : ℕ) → k < length m.nets → has_net nodes roots k ≡ true → value_at (shown_by front m) (get_or m.nets k 0) ≡ value_at values k
+
+-- nets that were there keep their values
+pub record Keeps (front : List Bool) (old new : Assembled) : Type 0 where
+  pub longer : old.next ≤ new.next
+  pub same : (k : ℕ) → k < old.next → value_at (shown_by front new) k ≡ value_at (shown_by front old) k
+  pub nets : new.nets ≡ old.nets
+
+all_more : (front : List Bool) (cells : List Stored) (c : Stored) → all_values front (cells ++ c ∷ []) ≡ all_values front cells ++ cell_values (all_values front cells) c
+all_more front [] c = refl
+all_more front (d ∷ cells) c = all_more (front ++ cell_values front d) cells c
+
+keeps_itself : (front : List Bool) (m : Assembled) → Keeps front m m
+keeps_itself front m = record { longer = omega arith; same = λ k lt. refl; nets = refl }
+
+pub keeps_on : (front : List Bool) (a b c : Assembled) → Keeps front a b → Keeps front b c → Keeps front a c
+keeps_on front a b c f g = record {
+  longer = omega (arith, f.longer, g.longer);
+  same = λ k lt. g.same k (omega (arith, lt, f.longer)) ∙ f.same k lt;
+  nets = g.nets ∙ f.nets;
+}
+
+-- one look-up table more, without a node
+with_table : Assembled → List ℕ → ℕ → Assembled
+with_table m leaves table = record { nets = m.nets; cells = m.cells ++ stored.Lut leaves table ∷ []; next = m.next + 1 }
+
+table_keeps : (nodes : List Node) (roots : List ℕ) (values front : List Bool) (m : Assembled) (leaves : List ℕ) (table : ℕ) → Shows nodes roots values front m → Keeps front m (with_table m leaves table)
+unfolding with_table
+table_keeps nodes roots values front m leaves table h = record {
+  longer = omega arith;
+  same = λ k lt. ap (λ vs. value_at vs k) (all_more front m.cells (stored.Lut leaves table)) ∙ get_or_append_left (shown_by front m) (cell_values (shown_by front m) (stored.Lut leaves table)) false k (omega (arith, lt, h.count));
+  nets = refl;
+}
+
+table_last : (nodes : List Node) (roots : List ℕ) (values front : List Bool) (m : Assembled) (leaves : List ℕ) (table : ℕ) → Shows nodes roots values front m
+    → value_at (shown_by front (with_table m leaves table)) m.next ≡ table_bit table (index_of (shown_by front m) leaves)
+unfolding with_table
+table_last nodes roots values front m leaves table h =
+    ap (λ vs. value_at vs m.next) (all_more front m.cells (stored.Lut leaves table))
+    ∙ ap (λ k. value_at (shown_by front m ++ cell_values (shown_by front m) (stored.Lut leaves table)) k) (sym h.count)
+    ∙ get_or-append_seam (shown_by front m) (table_bit table (index_of (shown_by front m) leaves)) [] false
+
+kept_shows : (nodes : List Node) (roots : List ℕ) (values front : List Bool) (old new : Assembled) → Shows nodes roots values front old → Keeps front old new → length (shown_by front new) ≡ new.next → Shows nodes roots values front new
+kept_shows nodes roots values front old new h k count = record {
+  count = count;
+  one = k.same 1 (omega (arith, h.two)) ∙ h.one;
+  two = omega (arith, h.two, k.longer);
+  there = λ i lt.
+      let before : get_or old.nets i 0 < old.next = h.there i (omega (arith, lt, ap length k.nets)) in
+      omega (arith, before, k.longer, ap (λ ns. get_or ns i 0) k.nets);
+  equal = λ i lt has.
+      let within : i < length old.nets = omega (arith, lt, ap length k.nets) in
+      ap (λ ns. value_at (shown_by front new) (get_or ns i 0)) k.nets ∙ k.same (get_or old.nets i 0) (h.there i within) ∙ h.equal i within has;
+}
+
+table_count : (nodes : List Node) (roots : List ℕ) (values front : List Bool) (m : Assembled) (leaves : List ℕ) (table : ℕ) → Shows nodes roots values front m
+    → length (shown_by front (with_table m leaves table)) ≡ m.next + 1
+unfolding with_table
+table_count nodes roots values front m leaves table h =
+    ap length (all_more front m.cells (stored.Lut leaves table))
+    ∙ length-append (shown_by front m) (cell_values (shown_by front m) (stored.Lut leaves table)) ∙ ap (λ k. k + 1) h.count
+
+-- an inverter
+inverted_bit : (b : Bool) → table_bit 1 ((if b then 1 else 0) + 2 * 0) ≡ xor true b
+unfolding xor
+inverted_bit true = refl
+inverted_bit false = refl
+
+plain_bit : (b : Bool) → b ≡ xor false b
+unfolding xor
+plain_bit true = refl
+plain_bit false = refl
+
+-- a literal by its two tests: whether it is 1, and whether it is odd
+inverter_by : (nodes : List Node) (roots : List ℕ) (values front : List Bool) (m : Assembled) (node : ℕ) (one odd : Bool) → Shows nodes roots values front m
+    → Shows nodes roots values front (if (if one then false else odd) then with_table m (get_or m.nets node 0 ∷ []) 1 else m) × Keeps front m (if (if one then false else odd) then with_table m (get_or m.nets node 0 ∷ []) 1 else m)
+unfolding with_table
+inverter_by nodes roots values front m node true odd h = (h, keeps_itself front m)
+inverter_by nodes roots values front m node false false h = (h, keeps_itself front m)
+inverter_by nodes roots values front m node false true h =
+    let kept = table_keeps nodes roots values front m (get_or m.nets node 0 ∷ []) 1 h in
+    (kept_shows nodes roots values front m (with_table m (get_or m.nets node 0 ∷ []) 1) h kept (table_count nodes roots values front m (get_or m.nets node 0 ∷ []) 1 h), kept)
+
+literal_by : (nodes : List Node) (roots : List ℕ) (values front : List Bool) (m : Assembled) (node : ℕ) (one odd : Bool) → Shows nodes roots values front m → node < length m.nets → has_net nodes roots node ≡ true
+    → (one ≡ true → xor odd (value_at values node) ≡ true)
+    → value_at (shown_by front (if (if one then false else odd) then with_table m (get_or m.nets node 0 ∷ []) 1 else m)) (if one then 1 else (if odd then m.next else get_or m.nets node 0)) ≡ xor odd (value_at values node)
+literal_by nodes roots values front m node true odd h lt has is_one = h.one ∙ sym (is_one refl)
+literal_by nodes roots values front m node false false h lt has is_one = h.equal node lt has ∙ plain_bit (value_at values node)
+literal_by nodes roots values front m node false true h lt has is_one =
+    table_last nodes roots values front m (get_or m.nets node 0 ∷ []) 1 h
+    ∙ inverted_bit (value_at (shown_by front m) (get_or m.nets node 0))
+    ∙ ap (xor true) (h.equal node lt has)
+
+net_by : (m : Assembled) (node : ℕ) (one odd : Bool) → 2 ≤ m.next → get_or m.nets node 0 < m.next
+    → (if one then 1 else (if odd then m.next else get_or m.nets node 0)) < (if (if one then false else odd) then with_table m (get_or m.nets node 0 ∷ []) 1 else m).next
+unfolding with_table
+net_by m node true odd two lt = omega (arith, two)
+net_by m node false true two lt = omega arith
+net_by m node false false two lt = lt
+
+-- a literal that may be used: its node was visited, and has a net
+pub record IsUsable (nodes : List Node) (roots : List ℕ) (m : Assembled) (literal : ℕ) : Type 0 where
+  pub visited : literal / 2 < length m.nets
+  pub has : has_net nodes roots (literal / 2) ≡ true
+
+pub inverter_shows : (nodes : List Node) (roots : List ℕ) (values front : List Bool) (m : Assembled) (literal : ℕ) → Shows nodes roots values front m → Shows nodes roots values front (with_inverter m literal)
+unfolding with_table
+inverter_shows nodes roots values front m literal h = (inverter_by nodes roots values front m (literal / 2) (literal == 1) (literal % 2 == 1) h).0
+
+pub inverter_keeps : (nodes : List Node) (roots : List ℕ) (values front : List Bool) (m : Assembled) (literal : ℕ) → Shows nodes roots values front m → Keeps front m (with_inverter m literal)
+unfolding with_table
+inverter_keeps nodes roots values front m literal h = (inverter_by nodes roots values front m (literal / 2) (literal == 1) (literal % 2 == 1) h).1
+
+constant_one : (values : List Bool) (literal : ℕ) → value_at values 0 ≡ false → literal ≡ 1 → xor (literal % 2 == 1) (value_at values (literal / 2)) ≡ true
+unfolding xor
+constant_one values literal zeroth e = ap (λ (l : ℕ). xor (l % 2 == 1) (value_at values (l / 2))) e ∙ ap (xor true) zeroth
+
+is_one : (literal : ℕ) → (literal == 1) ≡ true → literal ≡ 1
+is_one literal e = elim (eqb_tells literal 1) [
+  | inl t ↦ t.1
+  | inr t ↦ let both : true ≡ false = sym e ∙ t.0 in cc
+]
+
+pub net_shown : (nodes : List Node) (roots : List ℕ) (values front : List Bool) (m : Assembled) (literal : ℕ) → value_at values 0 ≡ false → Shows nodes roots values front m → IsUsable nodes roots m literal
+    → value_at (shown_by front (with_inverter m literal)) (net_of m literal) ≡ literal_value values literal
+unfolding with_table
+net_shown nodes roots values front m literal zeroth h u =
+    literal_by nodes roots values front m (literal / 2) (literal == 1) (literal % 2 == 1) h u.visited u.has (λ e. constant_one values literal zeroth (is_one literal e))
+
+pub net_there : (nodes : List Node) (roots : List ℕ) (values front : List Bool) (m : Assembled) (literal : ℕ) → Shows nodes roots values front m → IsUsable nodes roots m literal → net_of m literal < (with_inverter m literal).next
+unfolding with_table
+net_there nodes roots values front m literal h u = net_by m (literal / 2) (literal == 1) (literal % 2 == 1) h.two (h.there (literal / 2) u.visited)

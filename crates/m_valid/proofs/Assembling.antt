@@ -162,3 +162,88 @@ net_shown nodes roots values front m literal zeroth h u =
 pub net_there : (nodes : List Node) (roots : List ℕ) (values front : List Bool) (m : Assembled) (literal : ℕ) → Shows nodes roots values front m → IsUsable nodes roots m literal → net_of m literal < (with_inverter m literal).next
 unfolding with_table
 net_there nodes roots values front m literal h u = net_by m (literal / 2) (literal == 1) (literal % 2 == 1) h.two (h.there (literal / 2) u.visited)
+
+-- several literals in order
+pub inverters_keep : (nodes : List Node) (roots : List ℕ) (values front : List Bool) (m : Assembled) (literals : List ℕ) → Shows nodes roots values front m
+    → Shows nodes roots values front (with_inverters m literals) × Keeps front m (with_inverters m literals)
+inverters_keep nodes roots values front m [] h = (h, keeps_itself front m)
+inverters_keep nodes roots values front m (l ∷ ls) h =
+    let rest = inverters_keep nodes roots values front (with_inverter m l) ls (inverter_shows nodes roots values front m l h) in
+    (rest.0, keeps_on front m (with_inverter m l) (with_inverters (with_inverter m l) ls) (inverter_keeps nodes roots values front m l h) rest.1)
+
+usable_later : (nodes : List Node) (roots : List ℕ) (front : List Bool) (a b : Assembled) (literal : ℕ) → Keeps front a b → IsUsable nodes roots a literal → IsUsable nodes roots b literal
+usable_later nodes roots front a b literal k u = record { visited = omega (arith, u.visited, ap length k.nets); has = u.has }
+
+pub nets_shown : (nodes : List Node) (roots : List ℕ) (values front : List Bool) (m later : Assembled) (literals : List ℕ) → value_at values 0 ≡ false → Shows nodes roots values front m
+    → ((k : ℕ) → k < length literals → IsUsable nodes roots m (get_or literals k 0)) → Keeps front (with_inverters m literals) later
+    → map (value_at (shown_by front later)) (nets_of m literals) ≡ map (literal_value values) literals
+nets_shown nodes roots values front m later [] zeroth h u k = refl
+nets_shown nodes roots values front m later (l ∷ ls) zeroth h u k =
+    let next = with_inverter m l in
+    let first : IsUsable nodes roots m l = u 0 (omega arith) in
+    let shows = inverter_shows nodes roots values front m l h in
+    let rest = inverters_keep nodes roots values front next ls shows in
+    let whole = keeps_on front next (with_inverters next ls) later rest.1 k in
+    let here : value_at (shown_by front later) (net_of m l) ≡ literal_value values l =
+    whole.same (net_of m l) (net_there nodes roots values front m l h first) ∙ net_shown nodes roots values front m l zeroth h first in
+    ap (λ b. b ∷ map (value_at (shown_by front later)) (nets_of next ls)) here
+    ∙ ap (λ bs. literal_value values l ∷ bs)
+    (nets_shown nodes roots values front next later ls zeroth shows (λ i lt. usable_later nodes roots front m next (get_or ls i 0) (inverter_keeps nodes roots values front m l h) (u (suc i) (omega (arith, lt)))) k)
+
+-- a node that has no net
+past_node : (nodes : List Node) (roots : List ℕ) (values front : List Bool) (m : Assembled) → Shows nodes roots values front m → has_net nodes roots (length m.nets) ≡ false → Shows nodes roots values front (with_root m None)
+past_node nodes roots values front m h none = record {
+  count = h.count;
+  one = h.one;
+  two = h.two;
+  there = λ k lt. elim (eqb_tells k (length m.nets)) [
+    | inl e ↦ let at : get_or (m.nets ++ 0 ∷ []) k 0 ≡ 0 = ap (λ j. get_or (m.nets ++ 0 ∷ []) j 0) e.1 ∙ get_or-append_seam m.nets 0 [] 0 in omega (arith, at, h.two)
+    | inr e ↦
+        let within : k < length m.nets = omega (arith, lt, e.1, length-append m.nets (0 ∷ [])) in
+        omega (arith, get_or_append_left m.nets (0 ∷ []) 0 k within, h.there k within)
+  ];
+  equal = λ k lt has. elim (eqb_tells k (length m.nets)) [
+    | inl e ↦ let both : true ≡ false = sym has ∙ ap (has_net nodes roots) e.1 ∙ none in cc
+    | inr e ↦
+        let within : k < length m.nets = omega (arith, lt, e.1, length-append m.nets (0 ∷ [])) in
+        ap (value_at (shown_by front m)) (get_or_append_left m.nets (0 ∷ []) 0 k within) ∙ h.equal k within has
+  ];
+}
+
+-- one node more, whose net has its value
+node_more : (nodes : List Node) (roots : List ℕ) (values front : List Bool) (m : Assembled) (net : ℕ) → Shows nodes roots values front m → net < m.next → value_at (shown_by front m) net ≡ value_at values (length m.nets)
+    → Shows nodes roots values front (record { nets = m.nets ++ net ∷ []; cells = m.cells; next = m.next })
+node_more nodes roots values front m net h lt here = record {
+  count = h.count;
+  one = h.one;
+  two = h.two;
+  there = λ k below. elim (eqb_tells k (length m.nets)) [
+    | inl e ↦ let at : get_or (m.nets ++ net ∷ []) k 0 ≡ net = ap (λ j. get_or (m.nets ++ net ∷ []) j 0) e.1 ∙ get_or-append_seam m.nets net [] 0 in omega (arith, at, lt)
+    | inr e ↦
+        let within : k < length m.nets = omega (arith, below, e.1, length-append m.nets (net ∷ [])) in
+        omega (arith, get_or_append_left m.nets (net ∷ []) 0 k within, h.there k within)
+  ];
+  equal = λ k below has. elim (eqb_tells k (length m.nets)) [
+    | inl e ↦
+        ap (value_at (shown_by front m)) (ap (λ j. get_or (m.nets ++ net ∷ []) j 0) e.1 ∙ get_or-append_seam m.nets net [] 0) ∙ here ∙ ap (value_at values) (sym e.1)
+    | inr e ↦
+        let within : k < length m.nets = omega (arith, below, e.1, length-append m.nets (net ∷ [])) in
+        ap (value_at (shown_by front m)) (get_or_append_left m.nets (net ∷ []) 0 k within) ∙ h.equal k within has
+  ];
+}
+
+-- a root, whose table shows its value
+root_more : (nodes : List Node) (roots : List ℕ) (values front : List Bool) (m : Assembled) (l : Line) → Shows nodes roots values front m → l.root ≡ length m.nets
+    → ((k : ℕ) → is_among k l.leaves ≡ true → k < length m.nets) → ((k : ℕ) → is_among k l.leaves ≡ true → has_net nodes roots k ≡ true)
+    → table_bit (l.table % 2 ^ (2 ^ length l.leaves)) (index_of values l.leaves) ≡ value_at values l.root → Shows nodes roots values front (with_root m (Some l))
+unfolding with_table
+root_more nodes roots values front m l h at visited has shows =
+    let leaves = map (λ (k : ℕ). get_or m.nets k 0) l.leaves in
+    let table = l.table % 2 ^ (2 ^ length l.leaves) in
+    let kept = table_keeps nodes roots values front m leaves table h in
+    let next = kept_shows nodes roots values front m (with_table m leaves table) h kept (table_count nodes roots values front m leaves table h) in
+    let here : value_at (shown_by front (with_table m leaves table)) m.next ≡ value_at values (length m.nets) =
+    table_last nodes roots values front m leaves table h
+    ∙ ap (table_bit table) (index_moved (shown_by front m) values (λ (k : ℕ). get_or m.nets k 0) l.leaves (λ k leaf. h.equal k (visited k leaf) (has k leaf)))
+    ∙ shows ∙ ap (value_at values) at in
+    node_more nodes roots values front (with_table m leaves table) m.next next (omega arith) here

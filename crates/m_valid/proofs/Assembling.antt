@@ -247,3 +247,79 @@ root_more nodes roots values front m l h at visited has shows =
     ∙ ap (table_bit table) (index_moved (shown_by front m) values (λ (k : ℕ). get_or m.nets k 0) l.leaves (λ k leaf. h.equal k (visited k leaf) (has k leaf)))
     ∙ shows ∙ ap (value_at values) at in
     node_more nodes roots values front (with_table m leaves table) m.next next (omega arith) here
+
+-- a carry, whose two nodes come next
+carry_keeps : (nodes : List Node) (roots : List ℕ) (values front : List Bool) (m : Assembled) (a b c : ℕ) → Shows nodes roots values front m
+    → (k : ℕ) → k < m.next → value_at (shown_by front (with_carry m a b c)) k ≡ value_at (shown_by front m) k
+carry_keeps nodes roots values front m a b c h k lt =
+    ap (λ vs. value_at vs k) (all_more front m.cells (stored.Carry a b c)) ∙ get_or_append_left (shown_by front m) (cell_values (shown_by front m) (stored.Carry a b c)) false k (omega (arith, lt, h.count))
+
+carry_first : (nodes : List Node) (roots : List ℕ) (values front : List Bool) (m : Assembled) (a b c : ℕ) → Shows nodes roots values front m
+    → value_at (shown_by front (with_carry m a b c)) m.next ≡ xor (value_at (shown_by front m) a) (xor (value_at (shown_by front m) b) (value_at (shown_by front m) c))
+carry_first nodes roots values front m a b c h =
+    let v = shown_by front m in
+    ap (λ vs. value_at vs m.next) (all_more front m.cells (stored.Carry a b c)) ∙ ap (λ k. value_at (v ++ cell_values v (stored.Carry a b c)) k) (sym h.count)
+    ∙ get_or-append_seam v (xor (value_at v a) (xor (value_at v b) (value_at v c))) (majority (value_at v a) (value_at v b) (value_at v c) ∷ []) false
+
+carry_second : (nodes : List Node) (roots : List ℕ) (values front : List Bool) (m : Assembled) (a b c : ℕ) → Shows nodes roots values front m
+    → value_at (shown_by front (with_carry m a b c)) (m.next + 1) ≡ majority (value_at (shown_by front m) a) (value_at (shown_by front m) b) (value_at (shown_by front m) c)
+carry_second nodes roots values front m a b c h =
+    let v = shown_by front m in
+    ap (λ vs. value_at vs (m.next + 1)) (all_more front m.cells (stored.Carry a b c)) ∙ ap (λ k. value_at (v ++ cell_values v (stored.Carry a b c)) (k + 1)) (sym h.count)
+    ∙ get_or-append-add v (cell_values v (stored.Carry a b c)) 1 false
+
+carry_count : (nodes : List Node) (roots : List ℕ) (values front : List Bool) (m : Assembled) (a b c : ℕ) → Shows nodes roots values front m → length (shown_by front (with_carry m a b c)) ≡ m.next + 2
+carry_count nodes roots values front m a b c h =
+    ap length (all_more front m.cells (stored.Carry a b c)) ∙ length-append (shown_by front m) (cell_values (shown_by front m) (stored.Carry a b c)) ∙ ap (λ k. k + 2) h.count
+
+-- the same, before its nodes are visited
+carried : Assembled → ℕ → ℕ → ℕ → Assembled
+carried m a b c = record { nets = m.nets; cells = m.cells ++ stored.Carry a b c ∷ []; next = m.next + 2 }
+
+carried_shows : (nodes : List Node) (roots : List ℕ) (values front : List Bool) (m : Assembled) (a b c : ℕ) → Shows nodes roots values front m → Shows nodes roots values front (carried m a b c)
+unfolding carried
+carried_shows nodes roots values front m a b c h =
+    kept_shows nodes roots values front m (carried m a b c) h (record { longer = omega arith; same = carry_keeps nodes roots values front m a b c h; nets = refl }) (carry_count nodes roots values front m a b c h)
+
+carry_more : (nodes : List Node) (roots : List ℕ) (values front : List Bool) (m : Assembled) (a b c : ℕ) → Shows nodes roots values front m
+    → value_at values (length m.nets) ≡ xor (value_at (shown_by front m) a) (xor (value_at (shown_by front m) b) (value_at (shown_by front m) c))
+    → value_at values (length m.nets + 1) ≡ majority (value_at (shown_by front m) a) (value_at (shown_by front m) b) (value_at (shown_by front m) c)
+    → Shows nodes roots values front (with_carry m a b c)
+unfolding carried
+carry_more nodes roots values front m a b c h sum out =
+    let one = node_more nodes roots values front (carried m a b c) m.next (carried_shows nodes roots values front m a b c h) (omega arith) (carry_first nodes roots values front m a b c h ∙ sym sum) in
+    let long : length (m.nets ++ m.next ∷ []) ≡ length m.nets + 1 = length-append m.nets (m.next ∷ []) in
+    let mid : Assembled = record { nets = m.nets ++ m.next ∷ []; cells = m.cells ++ stored.Carry a b c ∷ []; next = m.next + 2 } in
+    let two = node_more nodes roots values front mid (m.next + 1) one (omega arith) (carry_second nodes roots values front m a b c h ∙ sym out ∙ ap (value_at values) (sym long)) in
+    let joined : (m.nets ++ m.next ∷ []) ++ (m.next + 1) ∷ [] ≡ m.nets ++ m.next ∷ (m.next + 1) ∷ [] = append_assoc m.nets (m.next ∷ []) ((m.next + 1) ∷ []) in
+    subst (λ ns. Shows nodes roots values front (record { nets = ns; cells = m.cells ++ stored.Carry a b c ∷ []; next = m.next + 2 })) joined two
+
+-- a carry over literals, of which the inverted ones give inverters first
+pub sum_more : (nodes : List Node) (roots : List ℕ) (values front : List Bool) (m : Assembled) (a b c : ℕ) → value_at values 0 ≡ false → Shows nodes roots values front m
+    → IsUsable nodes roots m a → IsUsable nodes roots m b → IsUsable nodes roots m c
+    → value_at values (length m.nets) ≡ xor (literal_value values a) (xor (literal_value values b) (literal_value values c))
+    → value_at values (length m.nets + 1) ≡ majority (literal_value values a) (literal_value values b) (literal_value values c) → Shows nodes roots values front (with_sum m a b c)
+sum_more nodes roots values front m a b c zeroth h ua ub uc sum out =
+    let m1 = with_inverter m a in
+    let m2 = with_inverter m1 b in
+    let m3 = with_inverter m2 c in
+    let k1 = inverter_keeps nodes roots values front m a h in
+    let h1 = inverter_shows nodes roots values front m a h in
+    let k2 = inverter_keeps nodes roots values front m1 b h1 in
+    let h2 = inverter_shows nodes roots values front m1 b h1 in
+    let k3 = inverter_keeps nodes roots values front m2 c h2 in
+    let h3 = inverter_shows nodes roots values front m2 c h2 in
+    let vb = usable_later nodes roots front m m1 b k1 ub in
+    let vc = usable_later nodes roots front m m2 c (keeps_on front m m1 m2 k1 k2) uc in
+    let ea : value_at (shown_by front m3) (net_of m a) ≡ literal_value values a =
+    (keeps_on front m1 m2 m3 k2 k3).same (net_of m a) (net_there nodes roots values front m a h ua) ∙ net_shown nodes roots values front m a zeroth h ua in
+    let eb : value_at (shown_by front m3) (net_of m1 b) ≡ literal_value values b = k3.same (net_of m1 b) (net_there nodes roots values front m1 b h1 vb) ∙ net_shown nodes roots values front m1 b zeroth h1 vb in
+    let ec : value_at (shown_by front m3) (net_of m2 c) ≡ literal_value values c = net_shown nodes roots values front m2 c zeroth h2 vc in
+    let nets : m3.nets ≡ m.nets = k3.nets ∙ k2.nets ∙ k1.nets in
+    carry_more nodes roots values front m3 (net_of m a) (net_of m1 b) (net_of m2 c) h3
+    (ap (λ ns. value_at values (length ns)) nets ∙ sum ∙ sym (three_same xor xor ea eb ec))
+    (ap (λ ns. value_at values (length ns + 1)) nets ∙ out ∙ sym (ap (λ x. majority x (value_at (shown_by front m3) (net_of m1 b)) (value_at (shown_by front m3) (net_of m2 c))) ea
+    ∙ ap (λ y. majority (literal_value values a) y (value_at (shown_by front m3) (net_of m2 c))) eb ∙ ap (λ z. majority (literal_value values a) (literal_value values b) z) ec))
+  where
+    three_same : (f g : Bool → Bool → Bool) → {x y z p q r : Bool} → x ≡ p → y ≡ q → z ≡ r → f x (g y z) ≡ f p (g q r)
+    three_same f g {x} {y} {z} {p} {q} {r} e h i = ap (λ u. f u (g y z)) e ∙ ap (λ u. f p (g u z)) h ∙ ap (λ u. f p (g q u)) i

@@ -103,7 +103,7 @@ second_of : (a b : Bool) → (a && b) ≡ true → b ≡ true
 second_of true b e = e
 second_of false b e = cc
 
-reaches_root : (least : ℕ) (leaves : List ℕ) (root : ℕ) → increase least leaves root ≡ true → least ≤ root
+pub reaches_root : (least : ℕ) (leaves : List ℕ) (root : ℕ) → increase least leaves root ≡ true → least ≤ root
 reaches_root least [] root e = le_is least root e
 reaches_root least (l ∷ ls) root e =
     omega (arith, le_is least l (first_of (nat_le least l) (increase (l + 1) ls root) e), reaches_root (l + 1) ls root (second_of (nat_le least l) (increase (l + 1) ls root) e))

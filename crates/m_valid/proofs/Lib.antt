@@ -10,3 +10,4 @@ pub mod Turns
 pub mod Plainly
 pub mod Cutting
 pub mod Assembling
+pub mod Granting

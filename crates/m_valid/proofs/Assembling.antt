@@ -42,7 +42,7 @@ all_more : (front : List Bool) (cells : List Stored) (c : Stored) → all_values
 all_more front [] c = refl
 all_more front (d ∷ cells) c = all_more (front ++ cell_values front d) cells c
 
-keeps_itself : (front : List Bool) (m : Assembled) → Keeps front m m
+pub keeps_itself : (front : List Bool) (m : Assembled) → Keeps front m m
 keeps_itself front m = record { longer = omega arith; same = λ k lt. refl; nets = refl }
 
 pub keeps_on : (front : List Bool) (a b c : Assembled) → Keeps front a b → Keeps front b c → Keeps front a c
@@ -171,7 +171,7 @@ inverters_keep nodes roots values front m (l ∷ ls) h =
     let rest = inverters_keep nodes roots values front (with_inverter m l) ls (inverter_shows nodes roots values front m l h) in
     (rest.0, keeps_on front m (with_inverter m l) (with_inverters (with_inverter m l) ls) (inverter_keeps nodes roots values front m l h) rest.1)
 
-usable_later : (nodes : List Node) (roots : List ℕ) (front : List Bool) (a b : Assembled) (literal : ℕ) → Keeps front a b → IsUsable nodes roots a literal → IsUsable nodes roots b literal
+pub usable_later : (nodes : List Node) (roots : List ℕ) (front : List Bool) (a b : Assembled) (literal : ℕ) → Keeps front a b → IsUsable nodes roots a literal → IsUsable nodes roots b literal
 usable_later nodes roots front a b literal k u = record { visited = omega (arith, u.visited, ap length k.nets); has = u.has }
 
 pub nets_shown : (nodes : List Node) (roots : List ℕ) (values front : List Bool) (m later : Assembled) (literals : List ℕ) → value_at values 0 ≡ false → Shows nodes roots values front m
@@ -191,7 +191,7 @@ nets_shown nodes roots values front m later (l ∷ ls) zeroth h u k =
     (nets_shown nodes roots values front next later ls zeroth shows (λ i lt. usable_later nodes roots front m next (get_or ls i 0) (inverter_keeps nodes roots values front m l h) (u (suc i) (omega (arith, lt)))) k)
 
 -- a node that has no net
-past_node : (nodes : List Node) (roots : List ℕ) (values front : List Bool) (m : Assembled) → Shows nodes roots values front m → has_net nodes roots (length m.nets) ≡ false → Shows nodes roots values front (with_root m None)
+pub past_node : (nodes : List Node) (roots : List ℕ) (values front : List Bool) (m : Assembled) → Shows nodes roots values front m → has_net nodes roots (length m.nets) ≡ false → Shows nodes roots values front (with_root m None)
 past_node nodes roots values front m h none = record {
   count = h.count;
   one = h.one;
@@ -233,7 +233,7 @@ node_more nodes roots values front m net h lt here = record {
 }
 
 -- a root, whose table shows its value
-root_more : (nodes : List Node) (roots : List ℕ) (values front : List Bool) (m : Assembled) (l : Line) → Shows nodes roots values front m → l.root ≡ length m.nets
+pub root_more : (nodes : List Node) (roots : List ℕ) (values front : List Bool) (m : Assembled) (l : Line) → Shows nodes roots values front m → l.root ≡ length m.nets
     → ((k : ℕ) → is_among k l.leaves ≡ true → k < length m.nets) → ((k : ℕ) → is_among k l.leaves ≡ true → has_net nodes roots k ≡ true)
     → table_bit (l.table % 2 ^ (2 ^ length l.leaves)) (index_of values l.leaves) ≡ value_at values l.root → Shows nodes roots values front (with_root m (Some l))
 unfolding with_table

@@ -11,3 +11,4 @@ pub mod Plainly
 pub mod Cutting
 pub mod Assembling
 pub mod Granting
+pub mod Gating

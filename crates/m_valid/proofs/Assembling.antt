@@ -1,5 +1,5 @@
 -- What is assembled shows the values of the nodes.
-use Rattle.std.proofs.Common.{◌≡◌, ◌≢◌, ◌<◌, ◌≤◌, ◌+◌, ◌-◌, ◌*◌, ◌/◌, ◌%◌, ◌^◌, ◌==◌, ◌&&◌, ◌||◌, ◌⊎◌, ℕ, zero, suc, List, [], ◌∷◌, ◌++◌, length, map, get_or, Bool, true, false, not, Option, None, Some, if◌then◌else◌, refl, ap, sym, subst, ◌∙◌, arith, add-zero, append_assoc, length-append, inl, inr}
+use Rattle.std.proofs.Common.{◌≡◌, ◌<◌, ◌≤◌, ◌+◌, ◌*◌, ◌/◌, ◌%◌, ◌^◌, ◌==◌, ◌||◌, ℕ, suc, List, [], ◌∷◌, ◌++◌, length, map, get_or, Bool, true, false, not, None, Some, if◌then◌else◌, refl, ap, sym, subst, ◌∙◌, arith, append_assoc, length-append, inl, inr}
 use mathlib.Core.Bool.{xor}
 use Rattle.std.proofs.Math.Seq.{get_or-append_seam}
 use Rattle.std.proofs.lemmas.List.{get_or_append_left, get_or-append-add}
@@ -13,7 +13,7 @@ use Rattle.g_net.specs.Run.{literal_value}
 use Rattle.g_net.specs.declared.proposal.Line.{Line}
 use Rattle.m_valid.specs.declared.nodes.Node.{Node}
 use Rattle.m_valid.specs.Nodes.{node_at, is_gate}
-use Rattle.m_valid.specs.Assembly.{Assembled, is_inverted, with_inverter, net_of, with_inverters, nets_of, line_of, with_root, with_carry, with_sum}
+use Rattle.m_valid.specs.Assembly.{Assembled, with_inverter, net_of, with_inverters, nets_of, with_root, with_carry, with_sum}
 use Rattle.m_valid.specs.Validity.{is_among}
 use Rattle.m_valid.proofs.Cutting.{index_moved}
 

@@ -1,13 +1,11 @@
 -- What is assembled of a network shows what the network shows, and goes on as it does.
-use Rattle.std.proofs.Common.{◌≡◌, ◌≢◌, ◌<◌, ◌≤◌, ◌+◌, ◌/◌, ◌==◌, ◌&&◌, ◌||◌, ◌⊎◌, ℕ, zero, suc, List, [], ◌∷◌, ◌++◌, flat_map, length, map, get_or, Bool, true, false, not, Option, None, Some, if◌then◌else◌, refl, ap, sym, subst, ◌∙◌, arith, append_assoc, length-append, inl, inr}
-use Rattle.std.specs.Bool.{xor}
+use Rattle.std.proofs.Common.{◌≡◌, ◌<◌, ◌≤◌, ◌+◌, ◌/◌, ◌==◌, ◌||◌, ◌⊎◌, ℕ, zero, suc, List, [], ◌∷◌, ◌++◌, flat_map, length, map, get_or, Bool, true, false, not, Option, None, Some, if◌then◌else◌, refl, ap, sym, ◌∙◌, arith, length-append, inl, inr}
 use Rattle.std.proofs.lemmas.Bool.Decides.{nat_tests}
 use Rattle.std.proofs.lemmas.List.{get_or-append-add}
 use Rattle.lz_base.specs.Bits.{word_of, words_bits}
 use Rattle.lz_base.specs.WordValue.{WordValue}
-use Rattle.lz_circuit.specs.Values.{value_at, majority}
+use Rattle.lz_circuit.specs.Values.{value_at}
 use Rattle.n_cells.specs.Run as cells
-use Rattle.n_cells.specs.Walk.{walked}
 use Rattle.n_cells.specs.declared.netlist.Stored.TheVariants as stored
 use Rattle.g_net.specs.declared.network.Flip.{Flip}
 use Rattle.g_net.specs.declared.network.Gate.{Gate}
@@ -22,7 +20,8 @@ use Rattle.m_valid.specs.declared.nodes.Node.{Node}
 use Rattle.m_valid.specs.declared.nodes.Node.TheVariants.{Constant, And, Xor}
 use Rattle.m_valid.specs.declared.verdict.Verdict.TheVariants.{Valid}
 use Rattle.m_valid.specs.Nodes.{nodes_of, node_at, is_gate, input_nodes, flip_nodes, gate_nodes}
-use Rattle.m_valid.specs.Assembly.{assembled, is_inverted, Assembled, sources, numbers, with_inverter, with_inverters, net_of, nets_of, line_of, with_root, with_sum, with_gate, with_gates, after_flips, flops_of, after_outputs, output_nets}
+use Rattle.m_valid.specs.Assembly.{is_inverted, Assembled, sources, numbers, with_inverter, with_inverters, net_of, nets_of, line_of, with_root, with_sum, with_gates, after_flips, flops_of, after_outputs, output_nets}
+use Rattle.m_valid.specs.Alike.{DoesAlike}
 use Rattle.m_valid.specs.Validity.{verdict, uses_of, is_among, roots_of, carry_uses, flip_uses, output_uses, half}
 use Rattle.m_valid.proofs.Assembling.{has_net, shown_by, Shows, Keeps, IsUsable, keeps_itself, keeps_on, inverter_shows, inverter_keeps, inverters_keep, net_shown, net_there, nets_shown, past_node, root_more, sum_more, usable_later}
 use Rattle.m_valid.proofs.Cutting.{equations_hold, Equations, table_shows}
@@ -312,15 +311,11 @@ gates_suffix n k =
     let at : first_gate n + k ≡ suc (length front + k) = omega (arith, front_count n) in
     ap (node_at (nodes_of n)) at ∙ past_front front (flat_map gate_nodes n.gates) k
 
--- In a cycle the assembled netlist shows and keeps what the network does.
-pub record SameCycle (n : NetworkValue) (lines : List Line) (inputs : List WordValue) (state values : List Bool) : Type 0 where
-  pub shown : cells.shown (assembled n lines) (walked (assembled n lines) inputs state) ≡ network.shown n values
-  pub next : cells.next_state (assembled n lines) state (walked (assembled n lines) inputs state) ≡ network.next_state n state values
-
+-- in a cycle the assembled netlist shows and keeps what the network does
 pub same_cycle : (n : NetworkValue) (lines : List Line) (most : ℕ) (inputs : List WordValue) (state values : List Bool) → verdict n lines most ≡ Valid → IsWellFormed n
     → length (words_bits inputs ++ state) ≡ source_bits n → length values ≡ node_count n → value_at values 0 ≡ false
     → ((k : ℕ) → k < length (words_bits inputs ++ state) → value_at values (k + 1) ≡ get_or (words_bits inputs ++ state) k false)
-    → GatesHold values (first_gate n) n.gates → SameCycle n lines inputs state values
+    → GatesHold values (first_gate n) n.gates → DoesAlike n lines inputs state values
 same_cycle n lines most inputs state values valid formed many count zeroth from holds =
     let bits = words_bits inputs ++ state in
     let front = false ∷ true ∷ bits in

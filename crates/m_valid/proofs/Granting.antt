@@ -1,12 +1,11 @@
 -- What a valid proposal grants: each line's ways and table, and that every node that is used has a net.
-use Rattle.std.proofs.Common.{◌≡◌, ◌≢◌, ◌<◌, ◌≤◌, ◌+◌, ◌/◌, ◌==◌, ◌&&◌, ◌||◌, ◌⊎◌, ℕ, zero, suc, List, [], ◌∷◌, ◌++◌, length, map, get_or, Bool, true, false, not, nat_le, Option, None, Some, if◌then◌else◌, refl, ap, sym, subst, ◌∙◌, arith, append_assoc, append-nil, inl, inr}
+use Rattle.std.proofs.Common.{◌≡◌, ◌<◌, ◌+◌, ◌==◌, ◌&&◌, ◌||◌, ◌⊎◌, ℕ, zero, suc, List, [], ◌∷◌, ◌++◌, length, map, Bool, true, false, not, nat_le, Option, None, Some, if◌then◌else◌, refl, ap, sym, subst, ◌∙◌, arith, append_assoc, inl, inr}
 use Rattle.std.proofs.lemmas.Bool.Decides.{eqb_tells}
 use Rattle.g_net.specs.declared.proposal.Line.{Line}
 use Rattle.g_net.specs.Network.{NetworkValue}
 use Rattle.m_valid.specs.declared.nodes.Node.{Node}
 use Rattle.m_valid.specs.declared.nodes.Node.TheVariants.{Constant, Source, And, Xor}
 use Rattle.m_valid.specs.declared.verdict.Check.TheVariants.{V1, V2, V3, V4, V5}
-use Rattle.m_valid.specs.declared.verdict.Verdict.{Verdict}
 use Rattle.m_valid.specs.declared.verdict.Verdict.TheVariants.{Valid}
 use Rattle.m_valid.specs.Nodes.{nodes_of, node_at, is_gate, is_source}
 use Rattle.m_valid.specs.Assembly.{line_of}

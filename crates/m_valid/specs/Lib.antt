@@ -3,3 +3,4 @@ pub mod Validity
 pub mod Walk
 pub mod Plain
 pub mod Assembly
+pub mod Alike

@@ -53,7 +53,7 @@ keeps_on front a b c f g = record {
 }
 
 -- one look-up table more, without a node
-with_table : Assembled → List ℕ → ℕ → Assembled
+unfoldable pub with_table : Assembled → List ℕ → ℕ → Assembled
 with_table m leaves table = record { nets = m.nets; cells = m.cells ++ stored.Lut leaves table ∷ []; next = m.next + 1 }
 
 table_keeps : (nodes : List Node) (roots : List ℕ) (values front : List Bool) (m : Assembled) (leaves : List ℕ) (table : ℕ) → Shows nodes roots values front m → Keeps front m (with_table m leaves table)
@@ -123,7 +123,7 @@ literal_by nodes roots values front m node false true h lt has is_one =
     ∙ inverted_bit (value_at (shown_by front m) (get_or m.nets node 0))
     ∙ ap (xor true) (h.equal node lt has)
 
-net_by : (m : Assembled) (node : ℕ) (one odd : Bool) → 2 ≤ m.next → get_or m.nets node 0 < m.next
+pub net_by : (m : Assembled) (node : ℕ) (one odd : Bool) → 2 ≤ m.next → get_or m.nets node 0 < m.next
     → (if one then 1 else (if odd then m.next else get_or m.nets node 0)) < (if (if one then false else odd) then with_table m (get_or m.nets node 0 ∷ []) 1 else m).next
 unfolding with_table
 net_by m node true odd two lt = omega (arith, two)

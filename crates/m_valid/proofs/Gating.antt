@@ -43,7 +43,7 @@ root_or_none n lines values front m (Some l) g q h gate is =
     (λ k leaf. (g.leaves (length m.nets) l is k leaf).0)
     (table_shows (nodes_of n) l values q (g.covered (length m.nets) l is) (g.table (length m.nets) l is))
 
-root_length : (m : Assembled) (o : Option Line) → length (with_root m o).nets ≡ length m.nets + 1
+pub root_length : (m : Assembled) (o : Option Line) → length (with_root m o).nets ≡ length m.nets + 1
 root_length m None = length-append m.nets (0 ∷ [])
 root_length m (Some l) = length-append m.nets (m.next ∷ [])
 
@@ -95,11 +95,11 @@ gates_show n lines values front g q zeroth (gate.Carry a b c ∷ gs) m number at
     (λ k is. u k (behind k (half a) (half b ∷ half c ∷ rest) (behind k (half b) (half c ∷ rest) (behind k (half c) rest is))))
 
 -- the constants, the inputs and the flip-flops
-numbers_length : (from count : ℕ) → length (numbers from count) ≡ count
+pub numbers_length : (from count : ℕ) → length (numbers from count) ≡ count
 numbers_length from zero = refl
 numbers_length from (suc count) = ap suc (numbers_length (from + 1) count)
 
-numbers_at : (from count j : ℕ) → j < count → get_or (numbers from count) j 0 ≡ from + j
+pub numbers_at : (from count j : ℕ) → j < count → get_or (numbers from count) j 0 ≡ from + j
 numbers_at from zero j lt = absurd (omega arith)
 numbers_at from (suc count) zero lt = omega arith
 numbers_at from (suc count) (suc j) lt = numbers_at (from + 1) count j (omega (arith, lt)) ∙ omega arith
@@ -215,20 +215,20 @@ outputs_show nodes roots values front m later (o ∷ os) zeroth h u k =
     (outputs_show nodes roots values front next later os zeroth here.0 (all_later nodes roots front m next rest here.1 (λ i is. u i (behind_all i (map half o.literals) rest is))) k)
 
 -- so many nodes are visited
-inverter_nets : (m : Assembled) (literal : ℕ) → (with_inverter m literal).nets ≡ m.nets
+pub inverter_nets : (m : Assembled) (literal : ℕ) → (with_inverter m literal).nets ≡ m.nets
 inverter_nets m literal = by_test (is_inverted literal) m (record { nets = m.nets; cells = m.cells ++ stored.Lut (get_or m.nets (literal / 2) 0 ∷ []) 1 ∷ []; next = m.next + 1 }) refl
   where
     by_test : (t : Bool) (m x : Assembled) → x.nets ≡ m.nets → (if t then x else m).nets ≡ m.nets
     by_test true m x e = e
     by_test false m x e = refl
 
-sum_nets : (m : Assembled) (a b c : ℕ) → length (with_sum m a b c).nets ≡ length m.nets + 2
+pub sum_nets : (m : Assembled) (a b c : ℕ) → length (with_sum m a b c).nets ≡ length m.nets + 2
 sum_nets m a b c =
     let before = with_inverters m (a ∷ b ∷ c ∷ []) in
     length-append before.nets (before.next ∷ (before.next + 1) ∷ [])
     ∙ ap (λ ns. length ns + 2) (inverter_nets (with_inverter (with_inverter m a) b) c ∙ inverter_nets (with_inverter m a) b ∙ inverter_nets m a)
 
-visited_all : (lines : List Line) (gs : List Gate) (m : Assembled) → length (with_gates lines m gs).nets ≡ length m.nets + net.gate_nodes gs
+pub visited_all : (lines : List Line) (gs : List Gate) (m : Assembled) → length (with_gates lines m gs).nets ≡ length m.nets + net.gate_nodes gs
 visited_all lines [] m = omega arith
 visited_all lines (gate.And a b ∷ gs) m = omega (arith, visited_all lines gs (with_root m (line_of lines (length m.nets))), root_length m (line_of lines (length m.nets)))
 visited_all lines (gate.Xor a b ∷ gs) m = omega (arith, visited_all lines gs (with_root m (line_of lines (length m.nets))), root_length m (line_of lines (length m.nets)))
@@ -312,16 +312,16 @@ gates_suffix n k =
     ap (node_at (nodes_of n)) at ∙ past_front front (flat_map gate_nodes n.gates) k
 
 -- in a cycle the assembled netlist shows and keeps what the network does
-pub same_cycle : (n : NetworkValue) (lines : List Line) (most : ℕ) (inputs : List WordValue) (state values : List Bool) → verdict n lines most ≡ Valid → IsWellFormed n
+pub same_cycle : (n : NetworkValue) (lines : List Line) (most : ℕ) (inputs : List WordValue) (state values : List Bool) → most ≤ 6 → verdict n lines most ≡ Valid → IsWellFormed n
     → length (words_bits inputs ++ state) ≡ source_bits n → length values ≡ node_count n → value_at values 0 ≡ false
     → ((k : ℕ) → k < length (words_bits inputs ++ state) → value_at values (k + 1) ≡ get_or (words_bits inputs ++ state) k false)
     → GatesHold values (first_gate n) n.gates → DoesAlike n lines inputs state values
-same_cycle n lines most inputs state values valid formed many count zeroth from holds =
+same_cycle n lines most inputs state values small valid formed many count zeroth from holds =
     let bits = words_bits inputs ++ state in
     let front = false ∷ true ∷ bits in
     let roots = roots_of lines in
     let nodes = nodes_of n in
-    let g = granted n lines most valid in
+    let g = granted n lines most small valid in
     let q = equations_hold n values count zeroth holds in
     let begin = sources_show n roots values bits many zeroth from in
     let long : length (sources n).nets ≡ first_gate n = omega (arith, numbers_length 2 (source_bits n)) in

@@ -1,5 +1,5 @@
 -- What a valid proposal grants: each line's ways and table, and that every node that is used has a net.
-use Rattle.std.proofs.Common.{◌≡◌, ◌<◌, ◌+◌, ◌==◌, ◌&&◌, ◌||◌, ◌⊎◌, ℕ, zero, suc, List, [], ◌∷◌, ◌++◌, length, map, Bool, true, false, not, nat_le, Option, None, Some, if◌then◌else◌, refl, ap, sym, subst, ◌∙◌, arith, append_assoc, inl, inr}
+use Rattle.std.proofs.Common.{◌≡◌, ◌<◌, ◌≤◌, ◌+◌, ◌==◌, ◌&&◌, ◌||◌, ◌⊎◌, ℕ, zero, suc, List, [], ◌∷◌, ◌++◌, length, map, Bool, true, false, not, nat_le, Option, None, Some, if◌then◌else◌, refl, ap, sym, subst, ◌∙◌, arith, append_assoc, inl, inr}
 use Rattle.std.proofs.lemmas.Bool.Decides.{eqb_tells}
 use Rattle.g_net.specs.declared.proposal.Line.{Line}
 use Rattle.g_net.specs.Network.{NetworkValue}
@@ -11,7 +11,7 @@ use Rattle.m_valid.specs.Nodes.{nodes_of, node_at, is_gate, is_source}
 use Rattle.m_valid.specs.Assembly.{line_of}
 use Rattle.m_valid.specs.Validity.{first_broken, judged, roots_hold, leaves_hold, has_leaves, may_be_leaves, increase, is_among, is_met, roots_of, is_covered, has_table, cones_hold, tables_hold, needs_hold, uses_of, verdict}
 use Rattle.m_valid.proofs.Assembling.{has_net}
-use Rattle.m_valid.proofs.Judging.{leaves_increase, reaches_root}
+use Rattle.m_valid.proofs.Judging.{leaves_few, leaves_increase, reaches_root}
 
 -- the checks that hold of a valid proposal
 parts : (p q r s t : Option ℕ) → judged V1 p (judged V2 q (judged V3 r (judged V4 s (judged V5 t Valid)))) ≡ Valid → (p ≡ None) × (q ≡ None) × (r ≡ None) × (s ≡ None) × (t ≡ None)
@@ -137,6 +137,15 @@ leaves_of_line nodes most place roots (x ∷ xs) number l h e k leaf =
       | inr t ↦ subst (λ rs. (has_net nodes rs k ≡ true) × (k < l.root)) (append_assoc roots (x.root ∷ []) (roots_of xs)) (leaves_of_line nodes most (place + 1) (roots ++ x.root ∷ []) xs number l s.1 t.1 k leaf)
     ]
 
+few_of_line : (nodes : List Node) (most place : ℕ) (roots : List ℕ) (ls : List Line) (number : ℕ) (l : Line) → first_broken place (leaves_hold nodes most roots ls) ≡ None → line_of ls number ≡ Some l → length l.leaves ≤ most
+few_of_line nodes most place roots [] number l h e = cc
+few_of_line nodes most place roots (x ∷ xs) number l h e =
+    let s = split (has_leaves nodes most roots x) place (first_broken (place + 1) (leaves_hold nodes most (roots ++ x.root ∷ []) xs)) h in
+    elim (pick (x.root == number) x l (line_of xs number) e) [
+      | inl t ↦ leaves_few nodes most roots l (ap (has_leaves nodes most roots) (sym t.1) ∙ s.0)
+      | inr t ↦ few_of_line nodes most (place + 1) (roots ++ x.root ∷ []) xs number l s.1 t.1
+    ]
+
 -- nodes that are used
 met_rooted : (gate used rooted : Bool) → (if gate && used then rooted else true) ≡ true → used ≡ true → (not gate || rooted) ≡ true
 met_rooted true true rooted h e = h
@@ -161,10 +170,11 @@ pub record IsGranted (n : NetworkValue) (lines : List Line) : Type 0 where
   pub covered : (number : ℕ) (l : Line) → line_of lines number ≡ Some l → is_covered (nodes_of n) l ≡ true
   pub table : (number : ℕ) (l : Line) → line_of lines number ≡ Some l → has_table (nodes_of n) l ≡ true
   pub leaves : (number : ℕ) (l : Line) → line_of lines number ≡ Some l → (k : ℕ) → is_among k l.leaves ≡ true → (has_net (nodes_of n) (roots_of lines) k ≡ true) × (k < l.root)
+  pub few : (number : ℕ) (l : Line) → line_of lines number ≡ Some l → length l.leaves ≤ 6
   pub used : (k : ℕ) → k < length (nodes_of n) → is_among k (uses_of n) ≡ true → has_net (nodes_of n) (roots_of lines) k ≡ true
 
-pub granted : (n : NetworkValue) (lines : List Line) (most : ℕ) → verdict n lines most ≡ Valid → IsGranted n lines
-granted n lines most e =
+pub granted : (n : NetworkValue) (lines : List Line) (most : ℕ) → most ≤ 6 → verdict n lines most ≡ Valid → IsGranted n lines
+granted n lines most small e =
     let nodes = nodes_of n in
     let p = parts (first_broken 1 (roots_hold nodes 0 lines)) (first_broken 1 (leaves_hold nodes most [] lines)) (first_broken 1 (cones_hold nodes lines)) (first_broken 1 (tables_hold nodes lines))
     (first_broken 0 (needs_hold (uses_of n) (roots_of lines) 0 nodes)) e in
@@ -172,6 +182,7 @@ granted n lines most e =
       covered = λ number l is. test_of_line (is_covered nodes) 1 lines number l p.2 is;
       table = λ number l is. test_of_line (has_table nodes) 1 lines number l p.3 is;
       leaves = λ number l is k leaf. leaves_of_line nodes most 1 [] lines number l p.1 is k leaf;
+      few = λ number l is. omega (arith, small, few_of_line nodes most 1 [] lines number l p.1 is);
       used = λ k lt is.
           let at : 0 + k ≡ k = omega arith in
           ap (λ j. not (is_gate (node_at nodes k)) || is_among j (roots_of lines)) (sym at)

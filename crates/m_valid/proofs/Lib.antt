@@ -12,3 +12,4 @@ pub mod Cutting
 pub mod Assembling
 pub mod Granting
 pub mod Gating
+pub mod Forming

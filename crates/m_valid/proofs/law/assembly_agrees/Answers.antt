@@ -5,8 +5,8 @@ use Rattle.m_valid.proofs.Gating.{same_cycle}
 use Rattle.m_valid.proofs.law.assembly_agrees.Goals as goal
 
 pub returns : goal.returns
-returns c = λ n lines most inputs state valid formed fit long.
+returns c = λ n lines most inputs state small valid formed fit long.
     let bits = words_bits inputs ++ state in
     let many = c.node_after_node.ensures.bits n inputs state fit long in
-    same_cycle n lines most inputs state (values_of n bits) valid formed many (c.sources_first.ensures.count n bits many) (c.sources_first.ensures.constant n bits)
+    same_cycle n lines most inputs state (values_of n bits) small valid formed many (c.sources_first.ensures.count n bits many) (c.sources_first.ensures.constant n bits)
     (c.sources_first.ensures.source n bits) (c.node_after_node.ensures.valued n inputs state formed fit long).gates

@@ -1,5 +1,5 @@
 -- What is assembled of a well-formed network is a well-formed netlist.
-use Rattle.std.proofs.Common.{◌≡◌, ◌<◌, ◌≤◌, ◌+◌, ◌*◌, ◌/◌, ◌%◌, ◌^◌, ◌==◌, ◌||◌, ℕ, zero, suc, List, [], ◌∷◌, ◌++◌, flat_map, length, map, get_or, Bool, true, false, Option, None, Some, IsSome, if◌then◌else◌, refl, ap, sym, subst, ◌∙◌, arith, add-zero, append_assoc, length-append, inl, inr}
+use Rattle.std.proofs.Common.{◌≡◌, ◌<◌, ◌≤◌, ◌+◌, ◌/◌, ◌%◌, ◌^◌, ◌==◌, ◌||◌, ℕ, zero, suc, List, [], ◌∷◌, ◌++◌, length, map, get_or, Bool, true, false, Option, None, Some, if◌then◌else◌, refl, ap, sym, subst, ◌∙◌, arith, add-zero, append_assoc, length-append, inl, inr}
 use Rattle.std.proofs.Math.Nat.{mod-lt}
 use Rattle.std.proofs.Math.Seq.{get_or-append_seam}
 use Rattle.std.proofs.lemmas.List.{get_or_append_left, length-map}
@@ -9,7 +9,6 @@ use Rattle.std.specs.Option.{option_to_list}
 use Rattle.lz_base.specs.declared.name.Port.{Port}
 use Rattle.lz_base.specs.Names.{AreDistinct}
 use Rattle.lz_circuit.specs.Lines.{HasClock, HaveWidths}
-use Rattle.n_cells.specs.declared.netlist.Flop.{Flop}
 use Rattle.n_cells.specs.declared.netlist.Stored.{Stored}
 use Rattle.n_cells.specs.declared.netlist.Stored.TheVariants as stored
 use Rattle.n_cells.specs.Netlist as cells
@@ -233,7 +232,7 @@ port_names : (os : List Output) → map (λ (p : Port). p.name) (map port_of os)
 port_names [] = refl
 port_names (o ∷ os) = ap (λ l. o.name ∷ l) (port_names os)
 
-so_many_flops : (m : Assembled) (fs : List Flip) → length (flops_of m fs) ≡ length fs
+pub so_many_flops : (m : Assembled) (fs : List Flip) → length (flops_of m fs) ≡ length fs
 so_many_flops m [] = refl
 so_many_flops m (f ∷ fs) = ap suc (so_many_flops (with_inverter (with_inverter m f.literal) f.enable) fs)
 

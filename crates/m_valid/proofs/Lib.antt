@@ -13,3 +13,4 @@ pub mod Assembling
 pub mod Granting
 pub mod Gating
 pub mod Forming
+pub mod Realising

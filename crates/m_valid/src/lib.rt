@@ -7,8 +7,8 @@
 //! networks and proposals, and on `n_cells` for netlists.
 //!
 //! Promised: the verdict is the definition's, for every network, every proposal and up to six leaves; the plain proposal is
-//! the definition's, and valid with six; and, as a law, the netlist that a valid proposal makes of a network shows in each
-//! cycle what the network shows, and goes on as it does.
+//! the definition's, and valid with six; and, as a law, the netlist that a valid proposal makes of a network is well formed
+//! and realises the network.
 #![tactic(auto)]
 
 mod cones;

@@ -1,0 +1,16 @@
+pub mod Lists
+pub mod Numbering
+pub mod Flagging
+pub mod Marking
+pub mod Bits
+pub mod Downwards
+pub mod Paths
+pub mod Judging
+pub mod Turns
+pub mod Plainly
+pub mod Cutting
+pub mod Assembling
+pub mod Granting
+pub mod Gating
+pub mod Forming
+pub mod Realising

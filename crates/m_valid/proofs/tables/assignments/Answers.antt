@@ -1,0 +1,13 @@
+use Rattle.std.proofs.Common.{◌<◌, ◌≤◌, ◌^◌, arith}
+use Rattle.std.proofs.lemmas.Nat.{one_shl}
+use Rattle.std.proofs.Math.Nat.{pow-le-pow_right}
+use Rattle.m_valid.proofs.tables.assignments.Goals as goal
+
+pub returns-clause-count : goal.returns-clause-count
+returns-clause-count c = one_shl c.args.leaves 32 (omega arith)
+
+pub returns-clause-few : goal.returns-clause-few
+returns-clause-few c =
+    let two : 0 < 2 = omega arith in
+    let most : 2 ^ c.args.leaves ≤ 2 ^ 6 = pow-le-pow_right two c.requires in
+    omega (arith, most, one_shl c.args.leaves 32 (omega arith))

@@ -1,0 +1,4 @@
+pub mod Repeated
+pub mod ChoiceFields
+pub mod KeyedLines
+pub mod WholeChoices

@@ -62,15 +62,24 @@ place_sum cycles c i =
     let f = length-append first_line lines in
     omega (arith, e, f, before_length (get_or cycles c []) i)
 
--- the place that is kept
-pub place_kept : (cycles : List (List ℕ)) (c i : ℕ) → c < length cycles → i ≤ length (get_or cycles c []) → get_or (get_or (cycle_places 11 cycles) c []) i 0 ≡ place_of cycles c i
-place_kept cycles c i within few =
-    ap (λ l. get_or l i 0) (cycle_places_at 11 cycles c within) ∙ entry_places_at (11 + length (flat_map cycle_line (take c cycles)) + 5) (get_or cycles c []) i few ∙ sym (place_sum cycles c i)
+-- the places that are kept are those of what is seen
+pub rows_are : {rows kept : List (List ℕ)} (own : List (List ℕ)) {seen : List (List ℕ)} → rows ≡ kept → kept ≡ cycle_places 11 own → own ≡ seen → rows ≡ cycle_places 11 seen
+rows_are own is keeps same = is ∙ keeps ∙ ap (cycle_places 11) same
 
-pub place_there : (cycles : List (List ℕ)) (c i : ℕ) → c < length cycles → i ≤ length (get_or cycles c []) → i < length (get_or (cycle_places 11 cycles) c [])
-place_there cycles c i within few =
-    let e = ap (λ (l : List ℕ). length l) (cycle_places_at 11 cycles c within) ∙ entry_places_length (11 + length (flat_map cycle_line (take c cycles)) + 5) (get_or cycles c []) in
+pub row_there : {rows : List (List ℕ)} (cycles : List (List ℕ)) {c : ℕ} → rows ≡ cycle_places 11 cycles → c < length cycles → c < length rows
+row_there cycles is within = omega (arith, within, ap (λ (l : List (List ℕ)). length l) is, cycle_places_length 11 cycles)
+
+row_is : (rows cycles : List (List ℕ)) (c : ℕ) → rows ≡ cycle_places 11 cycles → c < length cycles → get_or rows c [] ≡ entry_places (11 + length (flat_map cycle_line (take c cycles)) + 5) (get_or cycles c [])
+row_is rows cycles c is within = ap (λ (l : List (List ℕ)). get_or l c []) is ∙ cycle_places_at 11 cycles c within
+
+pub place_there : {rows : List (List ℕ)} (cycles : List (List ℕ)) (c i : ℕ) → rows ≡ cycle_places 11 cycles → c < length cycles → i ≤ length (get_or cycles c []) → i < length (get_or rows c [])
+place_there {rows = rows} cycles c i is within few =
+    let e = ap (λ (l : List ℕ). length l) (row_is rows cycles c is within) ∙ entry_places_length (11 + length (flat_map cycle_line (take c cycles)) + 5) (get_or cycles c []) in
     omega (arith, e, few)
+
+pub place_is : {rows : List (List ℕ)} (cycles : List (List ℕ)) (c i : ℕ) → rows ≡ cycle_places 11 cycles → c < length cycles → i ≤ length (get_or cycles c []) → get_or (get_or rows c []) i 0 ≡ place_of cycles c i
+place_is {rows = rows} cycles c i is within few =
+    ap (λ l. get_or l i 0) (row_is rows cycles c is within) ∙ entry_places_at (11 + length (flat_map cycle_line (take c cycles)) + 5) (get_or cycles c []) i few ∙ sym (place_sum cycles c i)
 
 -- it is one of the text
 entry_within : (ns : List ℕ) (i : ℕ) → length (flat_map number (take i ns)) + length (blank_of ns i) ≤ length (flat_map number ns)
@@ -90,7 +99,10 @@ line_length ns = let e = length-append (flat_map number ns) (10 ∷ []) in omega
 text_length : (cycles : List (List ℕ)) → length (schedule_text cycles) ≡ 11 + length (flat_map cycle_line cycles) + 4
 text_length cycles = let e = length-append (flat_map cycle_line cycles) last_line in omega (arith, e)
 
-pub place_within : (cycles : List (List ℕ)) (c i : ℕ) → c < length cycles → place_of cycles c i < length (schedule_text cycles)
+place_within : (cycles : List (List ℕ)) (c i : ℕ) → c < length cycles → place_of cycles c i < length (schedule_text cycles)
 place_within cycles c i within =
     let entries = get_or cycles c [] in
     omega (arith, place_sum cycles c i, entry_within entries i, cycle_within cycles c within, line_length entries, text_length cycles)
+
+pub kept_within : {rows : List (List ℕ)} (cycles : List (List ℕ)) (c i : ℕ) → rows ≡ cycle_places 11 cycles → c < length cycles → i ≤ length (get_or cycles c []) → get_or (get_or rows c []) i 0 < length (schedule_text cycles)
+kept_within cycles c i is within few = rw (place_is cycles c i is within few) (place_within cycles c i within)

@@ -17,7 +17,8 @@ before_entry entries index = codes "cycle" ++ flat_map number (take index entrie
 abbrev pub place_of : List (List ℕ) → ℕ → ℕ → ℕ
 place_of cycles cycle index = length (first_line ++ flat_map cycle_line (take cycle cycles) ++ before_entry (get_or cycles cycle []) index)
 
--- All places in their order, where the fields of a line, the line, or the lines begin at this byte.
+-- The places that schedules keep, in their order, where the numbers, the fields of a line, or the lines begin at this byte. No
+-- public clause names them.
 abbrev pub number_places : ℕ → List ℕ → List ℕ
 number_places at_ [] = []
 number_places at_ (n ∷ ns) = (at_ + 1) ∷ number_places (at_ + length (number n)) ns

@@ -98,12 +98,7 @@ fn read_cycles<'a>(
 }
 
 // Reads a whole text.
-fn read_whole(
-    alloc: Global,
-    bytes: &[u8],
-    processes: u32,
-    cycles: u64,
-) -> Result<Schedules, Unread>
+fn read_whole(alloc: Global, bytes: &[u8], processes: u32, cycles: u64) -> Result<Schedules, Unread>
     ensures { Obtains (IsSchedule processes cycles) Nothing (λ r. r) (λ _. []) bytes.now result }
 {
     let rest = read_word(bytes, b"schedule 1\n")?;

@@ -1,0 +1,5 @@
+pub mod Repeated
+pub mod Bits
+pub mod ChoiceTexts
+pub mod ScheduleTexts
+pub mod Places

@@ -27,7 +27,7 @@ found_before places [] more f is = absurd (cc)
 found_before places (rule ∷ rules) more f is =
     or_more rule (places rule) (first_fault places rules) (first_fault places (rules ++ more)) f is (found_before places rules more f)
 
-pub rest_none : (rule : Rule) (at : List ℕ) (x : Option Fault) → fault_or rule at x ≡ None → x ≡ None
+rest_none : (rule : Rule) (at : List ℕ) (x : Option Fault) → fault_or rule at x ≡ None → x ≡ None
 rest_none rule [] x is = is
 rest_none rule (at ∷ places) x is = absurd (cc)
 

@@ -1,7 +1,1 @@
 pub mod InOrder
-pub mod KeptMarks
-pub mod NetAssigns
-pub mod Outputs
-pub mod SoundExprs
-pub mod SoundItems
-pub mod TypedDesigns

@@ -1,12 +1,12 @@
-use Rattle.std.proofs.Common.{◌≡◌, ◌∙◌, refl, sym, subst, List, [], ◌∷◌, true}
+use Rattle.std.proofs.Common.{◌≡◌, ◌∙◌, refl, [], ◌∷◌}
 use Rattle.std.specs.Prelude.{⊤}
+use Rattle.lz_base.specs.declared.rule.Rule.{Rule}
 use Rattle.lz_base.specs.declared.rule.Rule.TheVariants as r
-use Rattle.v_meaning.specs.Broken.{places_of, typing_rules}
-use Rattle.v_meaning.specs.declared.names.Entry.{Entry}
-use Rattle.v_typing.specs.Sound.{are_sound_items}
+use Rattle.lz_base.specs.declared.fault.Fault.{Fault}
+use Rattle.v_meaning.specs.Broken.{places_of, first_fault, typing_rules}
+use Rattle.v_meaning.specs.ConstantRules.{improper}
 use Rattle.v_scope.specs.Scope.{scope_rules}
 use Rattle.v_usage.specs.Usage.{usage_rules}
-use Rattle.v_elaborate.proofs.SoundItems.{sound_items}
 use Rattle.v_elaborate.proofs.InOrder.{scope_refuses, constants_refuse, then_usage, handed, never_ok, Finds}
 use Rattle.v_elaborate.proofs.declaring.declared_names.Goals as goal
 
@@ -46,19 +46,3 @@ pub returns-clause-accepted : goal.returns-clause-accepted
 returns-clause-accepted c =
     let places = places_of c.args.module.now in
     (then_usage places c.in_ok-scope.ensures.accepted c.in_ok-names.ensures.accepted.0 ∙ c.in_ok-usage.ensures.accepted, c.in_ok-names.ensures.accepted.1)
-
-pub returns-in_err-scope-clause-sound : goal.returns-in_err-scope-clause-sound
-returns-in_err-scope-clause-sound c = never_ok _ _ _ c.from_residual.ensures.1
-
-pub returns-in_err-names-clause-sound : goal.returns-in_err-names-clause-sound
-returns-in_err-names-clause-sound c = never_ok _ _ _ c.from_residual-in_err-names.ensures.1
-
-pub returns-in_err-usage-clause-sound : goal.returns-in_err-usage-clause-sound
-returns-in_err-usage-clause-sound c = never_ok _ _ _ c.from_residual-in_err-usage.ensures.1
-
-pub returns-clause-sound : goal.returns-clause-sound
-returns-clause-sound c =
-    let m = c.args.module.now in
-    let places = places_of m in
-    let unbroken = then_usage places c.in_ok-scope.ensures.accepted c.in_ok-names.ensures.accepted.0 ∙ c.in_ok-usage.ensures.accepted in
-    subst (λ (names : List Entry). are_sound_items names m.items ≡ true) (sym c.in_ok-names.ensures.accepted.1) (sound_items m unbroken)

@@ -1,0 +1,6 @@
+pub mod KeptMarks
+pub mod NetAssigns
+pub mod Outputs
+pub mod SoundExprs
+pub mod SoundItems
+pub mod TypedDesigns

@@ -1,0 +1,59 @@
+ghost use Rattle.std.specs.Prelude.{◌≡◌, None, Some, IfOk, true, map};
+ghost use Rattle.lz_base.specs.Answers.{IfFault};
+ghost use Rattle.v_meaning.specs.Broken.{places_of, first_fault, typing_rules};
+ghost use Rattle.v_meaning.specs.Declarations.{names_of};
+ghost use Rattle.v_meaning.specs.Sites.{module_sites};
+ghost use Rattle.v_meaning.specs.Modules.{design_of};
+ghost use Rattle.v_core.specs.Cores.{design_in};
+ghost use Rattle.v_typing.specs.Sound.{are_sound_items};
+ghost use Rattle.v_sites.specs.Found.{site_in};
+
+use crate::copying::{copy_of, site_places};
+use crate::parts::parts_of;
+use crate::ports::outputs_of;
+use lz_base::{OutOfMemory, Stop};
+use std::alloc::Global;
+use v_core::Core;
+use v_elaborate::declared_names;
+use v_names::Names;
+use v_sites::sites;
+use v_syntax::Module;
+
+// The typed form of a module that keeps the rules of declarations and expressions, over its declared names.
+fn typed(alloc: Global, names: &Names, module: &Module) -> Result<Core, OutOfMemory>
+    requires declared { names.now ≡ names_of «module».now }
+    requires sound { are_sound_items names.now «module».now.items ≡ true }
+    ensures design { IfOk result (λ core. design_in core ≡ design_of «module».now) }
+    ensures names { IfOk result (λ core. core.names ≡ names_of «module».now) }
+    ensures sites { IfOk result (λ core. map site_in core.sites ≡ module_sites names.now «module».now.items) }
+{
+    let found = sites(alloc, names, module)?;
+    let places = site_places(alloc, found.as_slice())?;
+    let parts = parts_of(alloc, names, &places, module.items.as_slice())?;
+    let outputs = outputs_of(alloc, names, module.ports.as_slice())?;
+    let name = module.name.name.clone()?;
+    let entries = copy_of(alloc, names.entries())?;
+    Ok(Core {
+        name,
+        names: entries,
+        sites: found,
+        outputs,
+        assigns: parts.assigns,
+        processes: parts.processes,
+    })
+}
+
+/// The typed form of a module, where it keeps the rules of declarations and expressions (E4 to E13); it does in each cycle
+/// what the module does (IEEE Std 1364-2005, 4, 5, 6, 9 and 12). Its names are the declared names in text order, and its
+/// sites, assigns and processes stand in text order too. Else the answer is the first of these rules that is broken, at
+/// its least place, which is a byte of the file. `OutOfMemory` is the only other answer; it also comes where there are
+/// 2^32 names or sites. The work is n log n in the module.
+pub fn elaborate(alloc: Global, module: &Module) -> Result<Core, Stop>
+    ensures refused { IfFault result (λ fault. first_fault (places_of «module».now) typing_rules ≡ Some fault) }
+    ensures accepted { IfOk result (λ core. (first_fault (places_of «module».now) typing_rules ≡ None) × (design_in core ≡ design_of «module».now)) }
+    ensures names { IfOk result (λ core. core.names ≡ names_of «module».now) }
+    ensures sites { IfOk result (λ core. map site_in core.sites ≡ module_sites (names_of «module».now) «module».now.items) }
+{
+    let names = declared_names(alloc, module)?;
+    Ok(typed(alloc, &names, module)?)
+}

@@ -1,0 +1,15 @@
+//! The typed form of a module.
+//!
+//! It stands on `v_elaborate`, which judges the rules of declarations and expressions, on `v_typing`, `v_sites` and
+//! `v_statements`, which type expressions, sites and statements, and on `v_meaning` and `v_core` for the definitions of what
+//! a module and its typed form mean. Promised is: `elaborate` answers the first of these rules that a module breaks, at its
+//! least place, and otherwise the typed form, whose design is that of the module.
+#![tactic(auto)]
+
+mod assigns;
+mod copying;
+mod elaborating;
+mod parts;
+mod ports;
+
+pub use elaborating::elaborate;

@@ -2,7 +2,7 @@
 //!
 //! It stands on `v_meaning`, whose operators it means. Promised are, of expressions: each maker gives a node with its
 //! meaning, and `fix` gives an expression whose final width was open the value that it has at that width. Of statements
-//! and modules there are the types, and definitions of what they do; `v_statements` and `v_elaborate` make them.
+//! and modules there are the types, and definitions of what they do; `v_statements` and `v_typed` make them.
 #![tactic(auto)]
 
 mod fixing;

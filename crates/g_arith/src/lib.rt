@@ -24,6 +24,3 @@ pub use products::multiply;
 pub use shifts::shift;
 pub use sums::{add, subtract};
 pub use words::Bits;
-
-#[cfg(test)]
-mod tests;

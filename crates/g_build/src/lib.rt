@@ -11,6 +11,3 @@ mod part;
 mod sum;
 
 pub use building::Builder;
-
-#[cfg(test)]
-mod tests;

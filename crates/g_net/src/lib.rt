@@ -22,6 +22,3 @@ pub use law::{
 };
 pub use network::{Flip, Gate, Network};
 pub use proposal::{Leaves, Line, Proposal};
-
-#[cfg(test)]
-mod tests;

@@ -18,8 +18,6 @@ mod deep;
 mod literal;
 mod plain;
 mod shapes;
-#[cfg(test)]
-mod tests;
 
 pub use applying::{Gates, Outcome, apply};
 pub use book::{DeepRule, GateRule, RuleBook};

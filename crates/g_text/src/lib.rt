@@ -23,6 +23,3 @@ mod references;
 pub use printing::print;
 pub use proposal::{ProposalEnd, print_proposal, read_proposal};
 pub use reading::read;
-
-#[cfg(test)]
-mod tests;

@@ -21,8 +21,6 @@ mod met;
 mod name;
 mod outside;
 mod rule;
-#[cfg(test)]
-mod tests;
 mod transfer;
 mod word;
 

@@ -3,8 +3,8 @@
 //! A mapper proposes look-up tables in place of a network's gates, and nothing is known of it: `validate` says whether a
 //! proposal is valid, and else which check is broken first, and where. `plain` proposes a table for each gate.
 //! `specs/Validity.antt` says what valid is, check by check, `specs/Plain.antt` what the plain proposal is, and
-//! `specs/Assembly.antt` which netlist a proposal makes of a network; no call makes it yet. The crate stands on `g_net` for
-//! networks and proposals, and on `n_cells` for netlists.
+//! `specs/Assembly.antt` which netlist a proposal makes of a network, which a crate above makes. The crate stands on `g_net`
+//! for networks and proposals, and on `n_cells` for netlists.
 //!
 //! Promised: the verdict is the definition's, for every network, every proposal and up to six leaves; the plain proposal is
 //! the definition's, and valid with six; and, as a law, the netlist that a valid proposal makes of a network is well formed

@@ -3,4 +3,6 @@ pub mod Cells
 pub mod Walks
 pub mod Edges
 pub mod Streams
-pub mod Selecting
+pub mod Steps
+pub mod Places
+pub mod Cycles

@@ -1,20 +1,20 @@
 -- The streams in words of 64 bits.
-use Rattle.std.proofs.Common.{◌≡◌, ◌<◌, ◌≤◌, ◌+◌, ◌*◌, ◌-◌, ◌/◌, ◌%◌, ◌^◌, ◌==◌, ◌&&◌, ◌||◌, ℕ, zero, suc, List, [], ◌∷◌, ◌++◌, length, take, drop, map, get_or, min, max, Bool, true, false, if◌then◌else◌, arith, refl, ap, sym, ◌∙◌, append_assoc, append-nil, length-append, slice_get, Some}
+use Rattle.std.proofs.Common.{◌≡◌, ◌<◌, ◌≤◌, ◌+◌, ◌*◌, ◌-◌, ◌/◌, ◌%◌, ◌^◌, ◌==◌, ◌&&◌, ℕ, zero, suc, List, [], ◌∷◌, ◌++◌, length, take, drop, map, get_or, min, Bool, true, false, if◌then◌else◌, arith, refl, ap, sym, ◌∙◌, append_assoc, append-nil, length-append, slice_get, Some}
 use Rattle.std.specs.Int.{bit_at}
-use Rattle.std.specs.Int.Bits.{bit_and, bit_or, bit_xor}
+use Rattle.std.specs.Int.Bits.{bit_and, bit_xor}
 use mathlib.Core.Bool.{xor}
-use Rattle.std.proofs.Math.ListN.{set, length-set}
-use Rattle.std.proofs.lemmas.List.{map-set, map-append, take-map, length-map, take_more_set, take_all, drop_all}
+use Rattle.std.proofs.Math.ListN.{set}
+use Rattle.std.proofs.lemmas.List.{map-set, map-append, take-map, length-map, take_more_set, drop_all}
 use Rattle.n_cells.specs.declared.netlist.Flop.{Flop}
-use Rattle.std.proofs.lemmas.Nat.Bits.{bit_at_and, bit_at_or, bit_at_xor, bit_at-lt, bit_at_ones, bit_at-zero}
+use Rattle.std.proofs.lemmas.Nat.Bits.{bit_at_and, bit_at_xor, bit_at-lt, bit_at_ones, bit_at-zero}
 use Rattle.std.proofs.lemmas.Bool.Decides.{nat_tests}
 use Rattle.lz_base.specs.Bits.{number_of, low_bits, word_of, words_bits}
 use Rattle.lz_base.specs.declared.name.Port.{Port}
 use Rattle.lz_circuit.specs.Lines.{port_bits}
-use Rattle.n_cells.specs.Netlist.{NetlistValue, FillOutputs}
-use Rattle.lz_circuit.specs.Values.{value_at, majority}
-use Rattle.n_cells.specs.Run.{index_of, shown}
+use Rattle.n_cells.specs.Netlist.{FillOutputs}
+use Rattle.lz_circuit.specs.Values.{value_at}
 use Rattle.n_sim.specs.Lanes.{lane, stream}
+use Rattle.n_sim.specs.Steps.{joined}
 use Rattle.n_sim.proofs.Walks.{drop_next}
 use Rattle.n_sim.proofs.Edges.{moving, move_on}
 
@@ -37,24 +37,12 @@ two_and (suc (suc x)) y hx hy = absurd (omega arith)
 two_and zero (suc (suc y)) hx hy = absurd (omega arith)
 two_and (suc zero) (suc (suc y)) hx hy = absurd (omega arith)
 
-two_or : (x y : ℕ) → x < 2 → y < 2 → (max x y == 1) ≡ (x == 1) || (y == 1)
-two_or zero zero hx hy = refl
-two_or zero (suc zero) hx hy = refl
-two_or (suc zero) zero hx hy = refl
-two_or (suc zero) (suc zero) hx hy = refl
-two_or (suc (suc x)) y hx hy = absurd (omega arith)
-two_or zero (suc (suc y)) hx hy = absurd (omega arith)
-two_or (suc zero) (suc (suc y)) hx hy = absurd (omega arith)
-
 -- the operations on words are those on the bits of each stream
 pub lane_xor : (j a b : ℕ) → lane j (bit_xor a b) ≡ xor (lane j a) (lane j b)
 lane_xor j a b = ap (λ x. x == 1) (bit_at_xor a b j) ∙ two_xor (bit_at a j) (bit_at b j) (bit_at-lt a j) (bit_at-lt b j)
 
 pub lane_and : (j a b : ℕ) → lane j (bit_and a b) ≡ lane j a && lane j b
 lane_and j a b = ap (λ x. x == 1) (bit_at_and a b j) ∙ two_and (bit_at a j) (bit_at b j) (bit_at-lt a j) (bit_at-lt b j)
-
-pub lane_or : (j a b : ℕ) → lane j (bit_or a b) ≡ lane j a || lane j b
-lane_or j a b = ap (λ x. x == 1) (bit_at_or a b j) ∙ two_or (bit_at a j) (bit_at b j) (bit_at-lt a j) (bit_at-lt b j)
 
 pub lane_ones : (j : ℕ) → j < 64 → lane j (2 ^ 64 - 1) ≡ true
 lane_ones j h = ap (λ x. x == 1) (bit_at_ones 64 j h)
@@ -83,14 +71,6 @@ lane_choose j by low high =
     ∙ ap (xor (lane j low)) (lane_and j (bit_xor low high) by ∙ ap (λ x. x && lane j by) (lane_xor j low high))
     ∙ chosen (lane j by) (lane j low) (lane j high)
 
-pub lane_sum : (j a b c : ℕ) → lane j (bit_xor a (bit_xor b c)) ≡ xor (lane j a) (xor (lane j b) (lane j c))
-lane_sum j a b c = lane_xor j a (bit_xor b c) ∙ ap (xor (lane j a)) (lane_xor j b c)
-
-pub lane_majority : (j a b c : ℕ) → lane j (bit_or (bit_and a b) (bit_or (bit_and a c) (bit_and b c))) ≡ majority (lane j a) (lane j b) (lane j c)
-lane_majority j a b c =
-    lane_or j (bit_and a b) (bit_or (bit_and a c) (bit_and b c))
-    ∙ rw (lane_and j a b, lane_or j (bit_and a c) (bit_and b c), lane_and j a c, lane_and j b c) refl
-
 -- the value of a net in a stream
 pub lane_at : (j : ℕ) (words : List ℕ) (n : ℕ) → lane j (get_or words n 0) ≡ value_at (stream j words) n
 lane_at j [] n = lane_zero j
@@ -100,17 +80,6 @@ lane_at j (w ∷ words) (suc n) = lane_at j words n
 pub lanes_at : (j : ℕ) (words nets : List ℕ) → stream j (map (λ n. get_or words n 0) nets) ≡ map (value_at (stream j words)) nets
 lanes_at j words [] = refl
 lanes_at j words (n ∷ nets) = ap (λ b. b ∷ stream j (map (λ k. get_or words k 0) nets)) (lane_at j words n) ∙ ap (λ l. value_at (stream j words) n ∷ l) (lanes_at j words nets)
-
-number_at_nets : (values : List Bool) (nets : List ℕ) → number_of (map (value_at values) nets) ≡ index_of values nets
-number_at_nets values [] = refl
-number_at_nets values (n ∷ nets) = ap (λ i. (if value_at values n then 1 else 0) + 2 * i) (number_at_nets values nets)
-
--- the number that the leaves make in a stream
-pub index_at_lanes : (j : ℕ) (words : List ℕ) (count : ℕ) (nets : List ℕ) → number_of (stream j (take count (map (λ n. get_or words n 0) nets))) ≡ index_of (stream j words) (take count nets)
-index_at_lanes j words count nets =
-    ap (λ l. number_of (stream j l)) (take-map (λ n. get_or words n 0) count nets)
-    ∙ ap number_of (lanes_at j words (take count nets))
-    ∙ number_at_nets (stream j words) (take count nets)
 
 -- a word that is written
 pub stream_set : (j : ℕ) (words : List ℕ) (i w : ℕ) → stream j (set words i w) ≡ set (stream j words) i (lane j w)
@@ -129,21 +98,12 @@ stream_front j input state h =
     ∙ ap (λ b. false ∷ b ∷ stream j (input ++ state)) (lane_ones j h)
     ∙ ap (λ l. false ∷ true ∷ l) (map-append (lane j) input state)
 
--- all lists of nets as one
-pub joined : List (List ℕ) → List ℕ
-joined [] = []
-joined (ns ∷ more) = ns ++ joined more
-
 pub joined_next : (ns : List ℕ) (more : List (List ℕ)) → joined (ns ∷ more) ≡ ns ++ joined more
 unfolding joined
 joined_next ns more = refl
 
 pub joined_at : (nets : List (List ℕ)) (i : ℕ) (ns : List ℕ) → slice_get nets i ≡ Some ns → joined (drop i nets) ≡ ns ++ joined (drop (i + 1) nets)
 joined_at nets i ns is = ap joined (drop_next nets i ns is) ∙ joined_next ns (drop (i + 1) nets)
-
--- how many they are
-pub joined_more : (nets : List (List ℕ)) (i : ℕ) (ns : List ℕ) → slice_get nets i ≡ Some ns → length (joined (drop i nets)) ≡ length ns + length (joined (drop (i + 1) nets))
-joined_more nets i ns is = ap length (joined_at nets i ns is) ∙ length-append ns (joined (drop (i + 1) nets))
 
 -- one output more
 pub show_on : {X : Type 0} (f : ℕ → X) (front after : List X) (nets : List (List ℕ)) (i : ℕ) (ns : List ℕ) → slice_get nets i ≡ Some ns → after ≡ front ++ map f ns
@@ -155,14 +115,12 @@ show_on f front after nets i ns is e h =
     ∙ h
 
 -- all outputs
-pub show_ends : {X : Type 0} (f : ℕ → X) (out : List X) (nets : List (List ℕ)) (next i : ℕ) → length nets ≤ i → next + length (joined (drop i nets)) ≡ length out
-    → take next out ++ map f (joined (drop i nets)) ≡ map f (joined nets) → out ≡ map f (joined nets)
+pub show_all : {X : Type 0} (f : ℕ → X) (front : List X) (nets : List (List ℕ)) (i : ℕ) → length nets ≤ i → front ++ map f (joined (drop i nets)) ≡ map f (joined nets) → front ≡ map f (joined nets)
 unfolding joined
-show_ends f out nets next i past many h =
+show_all f front nets i past h =
     let none = drop_all i nets past in
-    let room = rw none at many in
     let all = rw none at h in
-    sym (take_all next out (omega (arith, room))) ∙ sym (append-nil (take next out)) ∙ all
+    sym (append-nil front) ∙ all
 
 -- the outputs have as many bits as nets
 pub joined_length : (ps : List Port) (nets : List (List ℕ)) → FillOutputs ps nets → length (joined nets) ≡ port_bits ps
@@ -187,7 +145,7 @@ low_of (b ∷ bits) =
     ∙ ap (λ k. b ∷ low_bits (length bits) k) (half_bit b (number_of bits))
     ∙ ap (λ l. b ∷ l) (low_of bits)
 
-shown_bits : (values : List Bool) (nets : List (List ℕ)) → words_bits (map (λ ns. word_of (map (value_at values) ns)) nets) ≡ map (value_at values) (joined nets)
+pub shown_bits : (values : List Bool) (nets : List (List ℕ)) → words_bits (map (λ ns. word_of (map (value_at values) ns)) nets) ≡ map (value_at values) (joined nets)
 unfolding joined
 shown_bits values [] = refl
 shown_bits values (ns ∷ more) =
@@ -195,36 +153,12 @@ shown_bits values (ns ∷ more) =
     ∙ ap (λ l. map (value_at values) ns ++ l) (shown_bits values more)
     ∙ sym (map-append (value_at values) ns (joined more))
 
--- the words of all outputs' nets have in each stream the bits that are shown
-pub shown_lanes : (n : NetlistValue) (j : ℕ) (words : List ℕ) → stream j (map (λ k. get_or words k 0) (joined n.nets)) ≡ words_bits (shown n (stream j words))
-shown_lanes n j words = lanes_at j words (joined n.nets) ∙ sym (shown_bits (stream j words) n.nets)
-
--- the sum and the majority of three nets in a stream
-pub sum_at : (j : ℕ) (words : List ℕ) (a b c : ℕ)
-    → lane j (bit_xor (get_or words a 0) (bit_xor (get_or words b 0) (get_or words c 0))) ≡ xor (value_at (stream j words) a) (xor (value_at (stream j words) b) (value_at (stream j words) c))
-sum_at j words a b c = lane_sum j (get_or words a 0) (get_or words b 0) (get_or words c 0) ∙ rw (lane_at j words a, lane_at j words b, lane_at j words c) refl
-
-pub majority_at : (j : ℕ) (words : List ℕ) (a b c : ℕ)
-    → lane j (bit_or (bit_and (get_or words a 0) (get_or words b 0)) (bit_or (bit_and (get_or words a 0) (get_or words c 0)) (bit_and (get_or words b 0) (get_or words c 0))))
-    ≡ majority (value_at (stream j words) a) (value_at (stream j words) b) (value_at (stream j words) c)
-majority_at j words a b c = lane_majority j (get_or words a 0) (get_or words b 0) (get_or words c 0) ∙ rw (lane_at j words a, lane_at j words b, lane_at j words c) refl
-
--- one word more, and two
+-- one word more
 pub put_one : (j : ℕ) (words : List ℕ) (next w : ℕ) (b : Bool) → next < length words → lane j w ≡ b
     → take (next + 1) (stream j (set words next w)) ≡ take next (stream j words) ++ b ∷ []
 put_one j words next w b lt e =
     let here : next < length (stream j words) = omega (arith, stream_length j words) in
     ap (take (next + 1)) (stream_set j words next w) ∙ take_more_set (stream j words) next (lane j w) here ∙ ap (λ x. take next (stream j words) ++ x ∷ []) e
-
-pub put_two : (j : ℕ) (words : List ℕ) (next v w : ℕ) (a b : Bool) → next + 1 < length words → lane j v ≡ a → lane j w ≡ b
-    → take (next + 2) (stream j (set (set words next v) (next + 1) w)) ≡ take next (stream j words) ++ a ∷ b ∷ []
-put_two j words next v w a b lt ea eb =
-    let two : next + 2 ≡ next + 1 + 1 = omega arith in
-    let room : next + 1 < length (set words next v) = omega (arith, length-set words next v) in
-    ap (λ k. take k (stream j (set (set words next v) (next + 1) w))) two
-    ∙ put_one j (set words next v) (next + 1) w b room eb
-    ∙ ap (λ l. l ++ b ∷ []) (put_one j words next v a (omega arith) ea)
-    ∙ append_assoc (take next (stream j words)) (a ∷ []) (b ∷ [])
 
 -- one flip-flop moves in a stream
 pub lane_moves : (j : ℕ) (nets state initial : List ℕ) (fs : List Flop) (i : ℕ) (d : Flop) (w : ℕ) → length initial ≡ length fs → i < length fs

@@ -2,5 +2,5 @@ pub mod SimValue
 pub mod Wires
 pub mod Gates
 pub mod Lanes
-pub mod Selects
+pub mod Steps
 pub mod Views

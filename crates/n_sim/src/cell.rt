@@ -33,7 +33,7 @@ fn put_cell(nets: &mut [bool], next: usize, kind: &Kind) -> usize
 {
     match kind {
         Kind::Lut { leaves, table } => {
-            nets[next] = bit_at(table.bits(), leaves.index(nets));
+            nets[next] = bit_at(*table, leaves.index(nets));
             next + 1
         }
         Kind::Carry(a, b, c) => {
@@ -46,7 +46,7 @@ fn put_cell(nets: &mut [bool], next: usize, kind: &Kind) -> usize
 }
 
 // Bit i of a table.
-pub(crate) fn bit_at(table: u64, i: u64) -> bool
+fn bit_at(table: u64, i: u64) -> bool
     requires { i < 64 }
     ensures { result ≡ table_bit table i }
 {

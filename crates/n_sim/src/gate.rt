@@ -3,7 +3,6 @@ ghost use Rattle.n_cells.specs.Cell.{stored_of};
 ghost use Rattle.n_cells.specs.Netlist.{HasShape, IsWellFormed};
 ghost use Rattle.n_sim.specs.Gates.{kind_cell};
 
-use crate::table::Table;
 use crate::wires::{Wires, short};
 use lz_base::{Items, OutOfMemory};
 use n_cells::{Cell, Netlist};
@@ -12,7 +11,7 @@ use std::marker::Model;
 
 #[derive(Debug, Drop)]
 pub(crate) enum Kind {
-    Lut { leaves: Wires, table: Table },
+    Lut { leaves: Wires, table: u64 },
     Carry(u32, u32, u32),
 }
 
@@ -39,7 +38,7 @@ fn kind_of(cell: Cell<'_>) -> Result<Kind, OutOfMemory>
     Ok(match cell {
         Cell::Lut { leaves, table } => Kind::Lut {
             leaves: Wires::new(leaves)?,
-            table: Table::new(table),
+            table,
         },
         Cell::Carry(a, b, c) => Kind::Carry(short(a)?, short(b)?, short(c)?),
     })

@@ -3,16 +3,16 @@ ghost use Rattle.lz_base.specs.Bits.{words_bits};
 ghost use Rattle.lz_base.specs.Ports.{FitPorts};
 ghost use Rattle.lz_base.specs.WordValue.{WordValue};
 ghost use Rattle.lz_circuit.specs.Lines.{port_bits};
-ghost use Rattle.n_cells.specs.Netlist.{IsWellFormed, net_count, AllBelow, FlopsBelow};
-ghost use Rattle.n_cells.specs.Run.{IsValuation, shown, first_state, after_edge};
-ghost use Rattle.n_sim.specs.Lanes.{stream, IsCycleOf};
+ghost use Rattle.n_cells.specs.Netlist.{IsWellFormed, first_net, AllBelow, FlopsBelow};
+ghost use Rattle.n_cells.specs.Run.{first_state, after_edge};
+ghost use Rattle.n_sim.specs.Lanes.{lane, stream, IsCycleOf};
+ghost use Rattle.n_sim.specs.Steps.{IsLaidOut};
 
 use crate::front::put_lane_front;
-use crate::gate::{Gate, lay_out};
-use crate::lane_cell::put_lane_cells;
-use crate::room::count_nets;
-use crate::select::choose;
-use lz_base::{Items, Num, OutOfMemory};
+use crate::layout::{Plan, make_plan};
+use crate::room::{add, count_front};
+use crate::step::put_steps;
+use lz_base::OutOfMemory;
 use n_cells::{Flop, Netlist, net_after_net};
 use std::alloc::Global;
 use std::marker::Model;
@@ -23,9 +23,9 @@ use std::marker::Model;
 #[derive(Debug, Drop)]
 pub struct Lanes<'a> {
     netlist: &'a Netlist,
-    gates: Items<Gate>,
+    plan: Plan,
     state: Vec<u64>,
-    nets: Vec<u64>,
+    words: Vec<u64>,
 }
 
 impl<'a> Model for Lanes<'a> {
@@ -42,21 +42,21 @@ impl<'a> Model for Lanes<'a> {
 
 impl<'a> Lanes<'a> {
     /// A simulator whose flip-flops have their first bits in every stream. It reserves all that its cycles use. A
-    /// netlist of 2^32 nets or more finds no room.
+    /// netlist whose nets before the cells and whose cells' steps are 2^32 or more finds no room.
     pub fn new(alloc: Global, netlist: &'a Netlist) -> Result<Lanes<'a>, OutOfMemory>
         ensures formed { OnOk result (IsWellFormed netlist.now) }
         ensures netlist { IfOk result (λ l. l.netlist ≡ netlist.now) }
         ensures state { IfOk result (λ l. (j : ℕ) → j < 64 → stream j l.state ≡ first_state netlist.now) }
     {
-        let gates = lay_out(alloc, netlist)?;
+        let plan = make_plan(alloc, netlist)?;
         let state = first_words(alloc, netlist.flops())?;
-        let mut nets = Vec::new(alloc);
-        nets.resize(count_nets(netlist)?, 0)?;
+        let mut words = Vec::new(alloc);
+        words.resize(add(count_front(netlist)?, plan.steps.len())?, 0)?;
         Ok(Lanes {
             netlist,
-            gates,
+            plan,
             state,
-            nets,
+            words,
         })
     }
 
@@ -70,8 +70,8 @@ impl<'a> Lanes<'a> {
     {
         step(
             self.netlist,
-            self.gates.as_slice(),
-            self.nets.as_mut_slice(),
+            &self.plan,
+            self.words.as_mut_slice(),
             self.state.as_mut_slice(),
             input,
             out,
@@ -91,69 +91,40 @@ fn first_words(alloc: Global, flops: &[Flop]) -> Result<Vec<u64>, OutOfMemory>
     )
 }
 
-// Does a cycle with room for the words of the nets.
+// Does a cycle with room for all words. The netlist tells only what the plan was made of.
 fn step(
     netlist: &Netlist,
-    gates: &[Gate],
-    nets: &mut [u64],
+    plan: &Plan,
+    words: &mut [u64],
     state: &mut [u64],
     input: &[u64],
     out: &mut [u64],
 )
     requires formed { IsWellFormed netlist.now }
-    requires gates { gates.now ≡ netlist.now.cells }
-    requires room { length nets.old ≡ net_count netlist.now }
+    requires laid { (places : List ℕ) × IsLaidOut netlist.now plan.now.steps plan.now.shown plan.now.flops places }
+    requires room { length words.old ≡ first_net netlist.now.inputs netlist.now.flops + length plan.now.steps }
     requires state { length state.old ≡ length netlist.now.flops }
     requires input { length input.now ≡ port_bits netlist.now.inputs }
     requires out { length out.old ≡ port_bits netlist.now.outputs }
     ensures { (j : ℕ) → j < 64 → IsCycleOf netlist.now input.now state.old out.new state.new j }
 {
-    settle(netlist, gates, nets, input, state);
-    show(netlist, nets, out);
-    take_edge(netlist.flops(), nets, state);
-}
-
-// Computes the words of all nets, one after another.
-fn settle(netlist: &Netlist, gates: &[Gate], nets: &mut [u64], input: &[u64], state: &[u64])
-    requires formed { IsWellFormed netlist.now }
-    requires gates { gates.now ≡ netlist.now.cells }
-    requires room { length nets.old ≡ net_count netlist.now }
-    requires input { length input.now ≡ port_bits netlist.now.inputs }
-    requires state { length state.now ≡ length netlist.now.flops }
-    ensures { (j : ℕ) (inputs : List WordValue) → j < 64 → FitPorts netlist.now.inputs inputs → words_bits inputs ≡ stream j input.now → IsValuation netlist.now inputs (stream j state.now) (stream j nets.new) }
-{
-    let first = put_lane_front(nets, input, state);
-    put_lane_cells(nets, first, gates);
+    let first = put_lane_front(words, input, state);
+    put_steps(words, first, plan.steps.as_slice());
+    put_places(out, words, plan.shown.as_slice());
+    take_edge(plan.flops.as_slice(), words, state);
     net_after_net();
 }
 
-// Writes the words of the outputs' bits.
-fn show(netlist: &Netlist, nets: &[u64], out: &mut [u64])
-    requires formed { IsWellFormed netlist.now }
-    requires room { length nets.now ≡ net_count netlist.now }
-    requires out { length out.old ≡ port_bits netlist.now.outputs }
-    ensures { (j : ℕ) → j < 64 → stream j out.new ≡ words_bits (shown netlist.now (stream j nets.now)) }
-{
-    let mut next = 0;
-    for i in 0..netlist.outputs().len() {
-        next = put_output(out, next, nets, netlist.output_nets(i));
-    }
-}
-
-// Puts the words of nets behind those that are there, and gives the number of the next place.
+// Writes the words at these places.
 #[tactic(auto, using(crate::proofs::Cells::below_at))]
-fn put_output(out: &mut [u64], start: usize, words: &[u64], nets: &[Num]) -> usize
-    requires there { AllBelow (length words.now) nets.now }
-    requires room { start + length nets.now ≤ length out.old }
-    ensures next { result ≡ start + length nets.now }
-    ensures words { take result out.new ≡ take start out.old ++ map (λ n. slice_index_or words.now n 0) nets.now }
+fn put_places(out: &mut [u64], words: &[u64], places: &[u32])
+    requires there { AllBelow (length words.now) places.now }
+    requires room { length out.old ≡ length places.now }
+    ensures { out.new ≡ map (λ n. slice_index_or words.now n 0) places.now }
 {
-    let mut next = start;
-    for net in nets {
-        out[next] = words[*net as usize];
-        next += 1;
+    for (i, place) in places.iter().enumerate() {
+        out[i] = words[*place as usize];
     }
-    next
 }
 
 // Gives each flip-flop in each stream the value of its net where its enable is 1.
@@ -170,4 +141,11 @@ fn take_edge(flops: &[Flop], nets: &[u64], state: &mut [u64])
             nets[flop.net as usize],
         );
     }
+}
+
+// In each stream the bit of one word or of the other.
+fn choose(by: u64, low: u64, high: u64) -> u64
+    ensures { (j : ℕ) → lane j result ≡ (if lane j by then lane j high else lane j low) }
+{
+    low ^ ((low ^ high) & by)
 }

@@ -1,12 +1,10 @@
-ghost use Rattle.std.specs.Prelude.{◌≡◌, ◌≤◌, ◌<◌, ℕ, IfOk, length, take, map, false, if◌then◌else◌, slice_index_or};
+ghost use Rattle.std.specs.Prelude.{◌≡◌, ◌≤◌, ◌<◌, IfOk, length, take, false, if◌then◌else◌};
 ghost use Rattle.n_cells.specs.Leaves.{most_leaves};
 ghost use Rattle.n_cells.specs.Netlist.{AllBelow};
 ghost use Rattle.lz_circuit.specs.Values.{value_at};
-ghost use Rattle.n_cells.specs.Run.{index_of, table_bit};
-ghost use Rattle.n_sim.specs.Lanes.{lane, stream};
+ghost use Rattle.n_cells.specs.Run.{index_of};
 ghost use Rattle.n_sim.specs.Wires.{AreFilled};
 
-use crate::table::Table;
 use lz_base::{Num, OutOfMemory};
 use n_cells::LEAVES;
 use std::marker::Model;
@@ -49,15 +47,6 @@ impl Wires {
         ensures small { result < 64 }
     {
         index_at(values, &self.nets)
-    }
-
-    // The word that a table shows over the words of the leaves.
-    pub(crate) fn word(&self, words: &[u64], table: &Table) -> u64
-        requires there { AllBelow (length words.now) self.now }
-        requires some { 0 < length words.now }
-        ensures { (j : ℕ) → j < 64 → lane j result ≡ table_bit table.now (index_of (stream j words.now) self.now) }
-    {
-        table.select(&words_at(words, &self.nets), self.count)
     }
 }
 
@@ -102,20 +91,4 @@ fn bit_of(values: &[bool], net: u32) -> u64
     ensures small { result < 2 }
 {
     u64::from(values[net as usize])
-}
-
-// The words at six nets.
-fn words_at(words: &[u64], nets: &[u32; LEAVES]) -> [u64; LEAVES]
-    requires { AllBelow (length words.now) nets.now }
-    ensures { result ≡ map (λ n. slice_index_or words.now n 0) nets.now }
-{
-    let [a, b, c, d, e, f] = *nets;
-    [
-        words[a as usize],
-        words[b as usize],
-        words[c as usize],
-        words[d as usize],
-        words[e as usize],
-        words[f as usize],
-    ]
 }

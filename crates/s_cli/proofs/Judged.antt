@@ -11,8 +11,8 @@ use Rattle.v_syntax.specs.declared.module.Module.{Module}
 use Rattle.v_syntax.specs.declared.token.Token.{Token}
 use Rattle.v_syntax.specs.ModuleGrammar.{Derives}
 use Rattle.v_syntax.specs.Tokens.{Lexes, BreaksAt}
-use Rattle.s_flow.specs.SmallText.{first_broken}
-use Rattle.s_flow.specs.Front.{IsMisread, IsBroken, IsRead}
+use Rattle.s_flow.specs.FirstBroken.{first_broken}
+use Rattle.s_flow.specs.Front.{IsMisread, IsBroken, IsNotSmall, IsRead}
 use Rattle.s_cli.specs.declared.forms.Command.TheVariants as command
 use Rattle.s_cli.specs.Answers.{Decides}
 use Rattle.s_cli.specs.Synthesis.{IsTranslation, IsJudged}
@@ -34,7 +34,7 @@ judged_long source longer = record {
   too_long = λ _. inl refl;
   unlexed = λ _ within _. absurd (omega arith);
   unparsed = λ _ within _ _. absurd (omega arith);
-  untyped = λ _ _ _ within _ _ _. absurd (omega arith);
+  broken = λ _ _ _ within _ _ _. absurd (omega arith);
   unsupported = λ _ _ within _ _ _ _. absurd (omega arith);
   small = λ _ within _. absurd (omega arith);
 }
@@ -44,7 +44,7 @@ judged_done one source output t = record {
   too_long = λ longer. absurd (omega (arith, t.within));
   unlexed = λ at _ breaks. absurd (one.apart source t.spelled.tokens at t.spelled.lexed breaks);
   unparsed = λ ts _ lexed none. absurd (none t.spelled.from.module_ (rw (one.tokens source ts t.spelled.tokens lexed t.spelled.lexed) t.spelled.from.derived));
-  untyped = λ ts m fault _ lexed derived broken.
+  broken = λ ts m fault _ lexed derived broken.
       absurd (none-some _ (sym t.spelled.from.kept ∙ one_fault one source t.spelled.tokens ts t.spelled.from.module_ m t.spelled.lexed lexed t.spelled.from.derived derived ∙ broken));
   unsupported = λ ts _ _ lexed _ _ none. absurd (none t.module_ (rw (one.tokens source ts t.spelled.tokens lexed t.spelled.lexed) t.spelled.from.small));
   small = λ _ _ _. inl refl;
@@ -56,26 +56,29 @@ judged_misread one source fault tokens within lexes (inl refused) = record {
   too_long = λ longer. absurd (omega arith);
   unlexed = λ at _ breaks. absurd (one.apart source tokens at lexes breaks);
   unparsed = λ ts _ lexed _. inl (fault, rw (one.tokens source ts tokens lexed lexes) refused, refl);
-  untyped = λ ts m _ _ lexed derived _. absurd (refused.none m (rw (one.tokens source ts tokens lexed lexes) at derived));
+  broken = λ ts m _ _ lexed derived _. absurd (refused.none m (rw (one.tokens source ts tokens lexed lexes) at derived));
   unsupported = λ ts m _ lexed derived _ _. absurd (refused.none m (rw (one.tokens source ts tokens lexed lexes) at derived));
   small = λ s _ t. absurd (refused.none t.from.module_ (rw (one.tokens source t.tokens tokens t.lexed lexes) at t.from.derived));
 }
-judged_misread one source fault tokens within lexes (inr (inl u)) = record {
+judged_misread one source fault tokens within lexes (inr u) = record {
   too_long = λ longer. absurd (omega arith);
   unlexed = λ at _ breaks. absurd (one.apart source tokens at lexes breaks);
   unparsed = λ ts _ lexed none. absurd (none u.module_ (rw (one.tokens source ts tokens lexed lexes) u.derived));
-  untyped = λ ts m other _ lexed derived broken.
+  broken = λ ts m other _ lexed derived broken.
       let same : Some fault ≡ Some other = sym u.broken ∙ one_fault one source tokens ts u.module_ m lexes lexed u.derived derived ∙ broken in
       inl (ap (λ (f : Fault). status.Refused f) (same_Some fault other same));
   unsupported = λ ts m _ lexed derived kept _. absurd (none-some _ (sym kept ∙ one_fault one source ts tokens m u.module_ lexed lexes derived u.derived ∙ u.broken));
   small = λ s _ t.
       absurd (none-some _ (sym t.from.kept ∙ one_fault one source t.tokens tokens t.from.module_ u.module_ t.lexed lexes t.from.derived u.derived ∙ u.broken));
 }
-judged_misread one source fault tokens within lexes (inr (inr none)) = record {
+
+-- and a module that breaks no rule and is no small one
+judged_unmade : OneReading → (source : List ℕ) (fault : Fault) (tokens : List Token) → length source ≤ source_limit → Lexes source tokens → IsNotSmall tokens fault → IsJudged source (status.Refused fault)
+judged_unmade one source fault tokens within lexes none = record {
   too_long = λ longer. absurd (omega arith);
   unlexed = λ at _ breaks. absurd (one.apart source tokens at lexes breaks);
   unparsed = λ ts _ lexed refused. absurd (refused none.module_ (rw (one.tokens source ts tokens lexed lexes) none.derived));
-  untyped = λ ts m _ _ lexed derived broken.
+  broken = λ ts m _ _ lexed derived broken.
       absurd (none-some _ (sym none.kept ∙ one_fault one source tokens ts none.module_ m lexes lexed none.derived derived ∙ broken));
   unsupported = λ _ _ _ _ _ _ _. inl (ap (λ (f : Fault). status.Refused f) none.fault_is);
   small = λ s _ t. absurd (none.none s (rw (one.tokens source tokens t.tokens lexes t.lexed) t.from.small));
@@ -90,26 +93,27 @@ judged_broken one source fault within (inl r) = record {
       let same : fault ≡ record { rule = E2; at = at } = ap (λ r. record { rule = r; at = fault.at }) rule ∙ ap (λ a. record { rule = E2; at = a }) place in
       inl (ap (λ (f : Fault). status.Refused f) same);
   unparsed = λ ts _ lexed _. absurd (one.apart source ts fault.at lexed r.breaks);
-  untyped = λ ts _ _ _ lexed _ _. absurd (one.apart source ts fault.at lexed r.breaks);
+  broken = λ ts _ _ _ lexed _ _. absurd (one.apart source ts fault.at lexed r.breaks);
   unsupported = λ ts _ _ lexed _ _ _. absurd (one.apart source ts fault.at lexed r.breaks);
   small = λ s _ t. absurd (one.apart source t.tokens fault.at t.lexed r.breaks);
 }
-judged_broken one source fault within (inr r) = judged_misread one source fault r.tokens within r.lexed r.misread
+judged_broken one source fault within (inr r) = judged_misread one source fault r.tokens within r.lexed r.holds
 
 pub judged_memory : (source : List ℕ) → IsJudged source status.OutOfMemory
 judged_memory source = record {
   too_long = λ _. inr refl;
   unlexed = λ _ _ _. inr refl;
   unparsed = λ _ _ _ _. inr refl;
-  untyped = λ _ _ _ _ _ _ _. inr refl;
+  broken = λ _ _ _ _ _ _ _. inr refl;
   unsupported = λ _ _ _ _ _ _ _. inr refl;
   small = λ _ _ _. inr refl;
 }
 
--- what the front end refuses
-pub front_refused : OneReading → (source : List ℕ) (e : Stop) → length source ≤ source_limit → IsRead source (Err e) → Decides command.Synth (source ∷ []) (Err e)
-front_refused one source (stop.Fault fault) within broken = (inr (within, broken), judged_broken one source fault within broken)
-front_refused one source stop.OutOfMemory within broken = tt
+-- what the reader of small modules refuses
+pub small_refused : OneReading → (source : List ℕ) (e : Stop) → length source ≤ source_limit → IsRead source (Err e) → Decides command.Synth (source ∷ []) (Err e)
+small_refused one source (stop.Fault fault) within (inl broken) = (inr (within, inl broken), judged_broken one source fault within broken)
+small_refused one source (stop.Fault fault) within (inr r) = (inr (within, inr r), judged_unmade one source fault r.tokens within r.lexed r.holds)
+small_refused one source stop.OutOfMemory within broken = tt
 
 -- and a source that is longer than it may be
 pub longer_refused : (source : List ℕ) → source_limit < length source → Decides command.Synth (source ∷ []) (Err (stop.Fault (record { rule = E1; at = source_limit })))

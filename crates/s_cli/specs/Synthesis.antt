@@ -17,8 +17,9 @@ use Rattle.v_syntax.specs.Tokens.{Lexes, BreaksAt}
 use Rattle.v_syntax.specs.Small.{IsSmall}
 use Rattle.v_parser.specs.Refusal as parser
 use Rattle.v_meaning.specs.SmallMachine.{module_machine, EverySchedule}
-use Rattle.s_flow.specs.SmallText.{first_broken, IsSmallText}
-use Rattle.s_flow.specs.Front.{IsBroken}
+use Rattle.s_flow.specs.FirstBroken.{first_broken}
+use Rattle.s_flow.specs.SmallText.{IsSmallText}
+use Rattle.s_flow.specs.Front.{IsUnmade}
 use Rattle.s_cli.specs.declared.status.Status.{Status}
 use Rattle.s_cli.specs.declared.status.Status.TheVariants as status
 use Rattle.s_cli.specs.Status.{IsUnlessMemory, IsRefusedUnlessMemory}
@@ -41,18 +42,19 @@ pub record IsTooLong (source : List ℕ) (fault : Fault) : Type 0 where
   pub longer : source_limit < length source
   pub fault_is : fault ≡ record { rule = E1; at = source_limit }
 
--- the source is refused with this fault: it is too long, or it breaks a later rule first
+-- The source is refused with this fault: it is too long; or this is the first rule that it breaks of E2 to E13, U1 for a
+-- combinational process, P1 to P10 and W1; or it breaks none of them and is a text of no small module, which is U1 too.
 abbrev pub IsSourceFault : List ℕ → Fault → Type 0
-IsSourceFault source fault = IsTooLong source fault ⊎ ((length source ≤ source_limit) × IsBroken source fault)
+IsSourceFault source fault = IsTooLong source fault ⊎ ((length source ≤ source_limit) × IsUnmade source fault)
 
 -- What the status is where no call on the files and on the output failed, each unless memory was wanting: the first
--- rule that is broken, and Ok for a source in the subset.
+-- rule that is broken, U1 for a module that breaks none and is no small one, and Ok for a small one that breaks none.
 pub record IsJudged (source : List ℕ) (result : Status) : Type 0 where
   pub too_long : source_limit < length source → IsUnlessMemory result (status.Refused (record { rule = E1; at = source_limit }))
   pub unlexed : (at : ℕ) → length source ≤ source_limit → BreaksAt source at → IsUnlessMemory result (status.Refused (record { rule = E2; at = at }))
   pub unparsed : (tokens : List Token) → length source ≤ source_limit → Lexes source tokens → ((m : Module) → Derives tokens m → ⊥)
       → IsRefusedUnlessMemory result (parser.IsRefused tokens (length source))
-  pub untyped : (tokens : List Token) (m : Module) (fault : Fault) → length source ≤ source_limit → Lexes source tokens → Derives tokens m → first_broken m ≡ Some fault
+  pub broken : (tokens : List Token) (m : Module) (fault : Fault) → length source ≤ source_limit → Lexes source tokens → Derives tokens m → first_broken m ≡ Some fault
       → IsUnlessMemory result (status.Refused fault)
   pub unsupported : (tokens : List Token) (m : Module) → length source ≤ source_limit → Lexes source tokens → Derives tokens m → first_broken m ≡ None
       → ((s : SmallModule) → IsSmall tokens s → ⊥) → IsUnlessMemory result (status.Refused (record { rule = U1; at = 0 }))

@@ -13,8 +13,6 @@ mod running;
 mod simulation;
 mod status;
 mod synthesis;
-#[cfg(test)]
-mod tests;
 mod upgrading;
 mod words;
 

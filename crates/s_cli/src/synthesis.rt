@@ -5,7 +5,7 @@ ghost use Rattle.s_cli.specs.declared.forms.Command.TheVariants as command;
 ghost use Rattle.s_cli.specs.Texts.{IsShort, IsWhole};
 
 use lz_base::{Fault, Rule, SOURCE_LIMIT, Stop};
-use s_flow::{front, make};
+use s_flow::{make, small};
 use std::alloc::Global;
 use v_lexer::one_reading;
 use v_parser::one_module;
@@ -17,7 +17,7 @@ fn translated(alloc: Global, source: &[u8]) -> Result<Vec<u8>, Stop>
 {
     one_reading();
     one_module();
-    let module = match front(alloc, source) {
+    let module = match small(alloc, source) {
         Ok(module) => module,
         Err(stop) => return Err(stop),
     };

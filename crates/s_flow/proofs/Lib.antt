@@ -1,3 +1,4 @@
+pub mod FirstBroken
 pub mod Names
 pub mod Tables
 pub mod Schedules

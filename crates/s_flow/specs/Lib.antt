@@ -1,3 +1,4 @@
+pub mod FirstBroken
 pub mod SmallText
 pub mod Made
 pub mod Front

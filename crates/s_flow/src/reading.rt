@@ -1,26 +1,41 @@
-ghost use Rattle.std.specs.Prelude.{◌≡◌, ◌≤◌, ◌⊎◌, length, None, IfOk};
+ghost use Rattle.std.specs.Prelude.{◌≡◌, ◌≤◌, length, None, Some, IfOk};
 ghost use Rattle.lz_base.specs.Limits.{source_limit};
 ghost use Rattle.lz_base.specs.Answers.{IfFault};
-ghost use Rattle.v_syntax.specs.ModuleGrammar.{Derives};
-ghost use Rattle.v_parser.specs.Refusal.{IsRefused};
-ghost use Rattle.s_flow.specs.SmallText.{first_broken};
-ghost use Rattle.s_flow.specs.Front.{IsUntyped, IsRead, IsReadFrom};
+ghost use Rattle.v_meaning.specs.Modules.{design_of};
+ghost use Rattle.v_core.specs.Cores.{design_in};
+ghost use Rattle.s_flow.specs.FirstBroken.{first_broken};
+ghost use Rattle.s_flow.specs.Front.{IsFront, IsTypedFrom, IsRead, IsReadFrom};
 
 use lz_base::{Fault, Rule, Stop};
 use std::alloc::Global;
+use v_core::Core;
 use v_elaborate::declared_names;
 use v_lexer::lex;
 use v_parser::parse;
+use v_rules::{check, is_clocked};
 use v_small::read;
 use v_syntax::{Module, SmallModule, Tokens};
+use v_typed::{kept_is_sound, typed};
+
+/// The typed form of the module that the bytes are a text of; it does in each cycle what the module does.
+///
+/// `E2` comes at the first byte that begins neither white space, a comment, a skipped line nor a token. Otherwise `E3`
+/// comes where the tokens are no module, at a token with which no module goes on. Of a module comes the first rule that it
+/// breaks: of `E4` to `E13` the first one, at the least byte where it breaks it; then `U1` at 0 where it has a combinational
+/// process; then the first of `P1` to `P8` and `W1`, at its least byte. `OutOfMemory` is the only other answer.
+pub fn front(alloc: Global, bytes: &[u8]) -> Result<Core, Stop>
+    requires { length bytes.now ≤ source_limit }
+    ensures { IsFront bytes.now result }
+{
+    let tokens = lex(alloc, bytes)?;
+    core_of(alloc, &tokens)
+}
 
 /// The small module that the bytes are a text of.
 ///
-/// `E2` comes at the first byte that begins neither white space, a comment, a skipped line nor a token. Otherwise `E3`
-/// comes where the tokens are no module, at a token with which no module goes on. Of a module comes the first of `E4`
-/// to `E13` that it breaks, at the least byte where it breaks it, and `U1` at 0 where it breaks none of them and its
-/// tokens are those of no small module.
-pub fn front(alloc: Global, bytes: &[u8]) -> Result<SmallModule, Stop>
+/// A text that `front` refuses is refused with the same rule at the same byte. Otherwise `U1` comes at 0 where the tokens
+/// are those of no small module. `OutOfMemory` is the only other answer.
+pub fn small(alloc: Global, bytes: &[u8]) -> Result<SmallModule, Stop>
     requires { length bytes.now ≤ source_limit }
     ensures { IsRead bytes.now result }
 {
@@ -28,29 +43,41 @@ pub fn front(alloc: Global, bytes: &[u8]) -> Result<SmallModule, Stop>
     small_of(alloc, &tokens)
 }
 
-// The module that the tokens derive, where it breaks none of the rules E4 to E13.
-fn module_of(alloc: Global, tokens: &Tokens) -> Result<Module, Stop>
-    ensures right { IfOk result (λ m. Derives tokens.now.tokens m × (first_broken m ≡ None)) }
-    ensures refused { IfFault result (λ fault. IsRefused tokens.now.tokens tokens.now.end fault ⊎ IsUntyped tokens.now.tokens fault) }
-{
-    let module = parse(alloc, tokens)?;
-    declared_names(alloc, &module)?;
-    Ok(module)
-}
-
 // The small module of the tokens.
 fn small_of(alloc: Global, tokens: &Tokens) -> Result<SmallModule, Stop>
     ensures { IsReadFrom tokens.now.tokens tokens.now.end result }
 {
-    module_of(alloc, tokens)?;
+    core_of(alloc, tokens)?;
     match read(alloc, tokens.tokens())? {
         Some(small) => Ok(small),
-        None => Err(not_small()),
+        None => Err(unsupported()),
     }
 }
 
-// The refusal of a text of no small module.
-fn not_small() -> Stop
+// The typed form of the module of the tokens.
+fn core_of(alloc: Global, tokens: &Tokens) -> Result<Core, Stop>
+    ensures { IsTypedFrom tokens.now.tokens tokens.now.end result }
+{
+    let module = parse(alloc, tokens)?;
+    judged(alloc, &module)
+}
+
+// The typed form of a module that breaks no rule.
+fn judged(alloc: Global, module: &Module) -> Result<Core, Stop>
+    ensures accepted { IfOk result (λ core. (first_broken «module».now ≡ None) × (design_in core ≡ design_of «module».now)) }
+    ensures refused { IfFault result (λ fault. first_broken «module».now ≡ Some fault) }
+{
+    kept_is_sound();
+    let names = declared_names(alloc, module)?;
+    if !is_clocked(module) {
+        return Err(unsupported());
+    }
+    check(alloc, &names, module)?;
+    Ok(typed(alloc, &names, module)?)
+}
+
+// The refusal of a module of which no netlist is made yet.
+fn unsupported() -> Stop
     ensures { result ≡ Stop.Fault (record { rule = Rule.U1; at = 0 }) }
 {
     Stop::Fault(Fault {

@@ -10,6 +10,3 @@ mod reading;
 mod texts;
 
 pub use texts::{Stimulus, Trace, print_stimulus, print_trace, read_stimulus, read_trace};
-
-#[cfg(test)]
-mod tests;

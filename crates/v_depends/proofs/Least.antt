@@ -49,11 +49,11 @@ dependences_are g u is clocked =
     ∙ sym (ap (λ (ps : List ProcessUse). map (λ (x : AssignUse). record { name = x.target.name; on = ident_names (reads_in x.reads) }) u.assigns
     ++ flat_map (λ (p : ProcessUse). map (λ name. record { name = name; on = outside_reads p }) (settled_by u p)) ps) clocked)
 
-targets_seen : (assigns : List AssignUse) → map (λ (a : AssignSeen). a.target) (map assign_seen assigns) ≡ map (λ (x : AssignUse). x.target) assigns
+pub targets_seen : (assigns : List AssignUse) → map (λ (a : AssignSeen). a.target) (map assign_seen assigns) ≡ map (λ (x : AssignUse). x.target) assigns
 targets_seen [] = refl
 targets_seen (x ∷ xs) = ap (λ l. x.target ∷ l) (targets_seen xs)
 
-targets_in : (assigns : List AssignUses) → map (λ (a : AssignUses). a.target.now) assigns ≡ map (λ (a : AssignSeen). a.target) (map assign_in assigns)
+pub targets_in : (assigns : List AssignUses) → map (λ (a : AssignUses). a.target.now) assigns ≡ map (λ (a : AssignSeen). a.target) (map assign_in assigns)
 targets_in [] = refl
 targets_in (a ∷ more) = ap (λ l. a.target.now ∷ l) (targets_in more)
 

@@ -4,5 +4,7 @@ pub mod Places
 pub mod Gathering
 pub mod Edges
 pub mod Walks
+pub mod TurnByTurn
+pub mod Orders
 pub mod MarkedNames
 pub mod Least

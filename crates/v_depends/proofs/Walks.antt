@@ -43,7 +43,7 @@ none_marked (suc n) (suc node) = none_marked n node
 none_counted : (n : ℕ) → count_by not (replicate n false) ≡ n
 none_counted n = let e : count_by not (replicate n false) ≡ n * 1 = sum_by-replicate (λ x. cond (not x) 1 0) n false in omega (arith, e)
 
-in_push : (node new : ℕ) (ns : List ℕ) → is_in node (ns ++ new ∷ []) ≡ (new == node || is_in node ns)
+pub in_push : (node new : ℕ) (ns : List ℕ) → is_in node (ns ++ new ∷ []) ≡ (new == node || is_in node ns)
 in_push node new [] = refl
 in_push node new (n ∷ ns) = ap (λ b. n == node || b) (in_push node new ns) ∙ swap (n == node) (new == node) (is_in node ns)
 
@@ -119,7 +119,7 @@ walks_begin rows starts r before n m long same none a = record {
       closed.begins node (a.from node there) (reached_below r node (length rows) m (long ∙ same) h);
 }
 
-at_in : (ns : List ℕ) (i d : ℕ) → i < length ns → is_in (get_or ns i d) ns ≡ true
+pub at_in : (ns : List ℕ) (i d : ℕ) → i < length ns → is_in (get_or ns i d) ns ≡ true
 at_in [] i d h = absurd (omega arith)
 at_in (n ∷ ns) zero d h = or_left (n == n) (is_in n ns) (eq-eqb n n refl)
 at_in (n ∷ ns) (suc i) d h = or_right (n == get_or ns i d) (is_in (get_or ns i d) ns) (at_in ns i d (omega arith))

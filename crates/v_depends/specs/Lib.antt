@@ -1,3 +1,5 @@
 pub mod Pairs
 pub mod Graphs
 pub mod Nodes
+pub mod Turning
+pub mod Orders

@@ -1,5 +1,5 @@
 -- Graphs over numbers, and the nodes that a walk reaches.
-use Rattle.std.specs.Prelude.{◌≡◌, ℕ, ◌+◌, ◌<◌, ◌≤◌, ◌==◌, List, [], ◌∷◌, ◌++◌, length, Bool, true, false, not, ◌||◌, if◌then◌else◌, slice_index_or}
+use Rattle.std.specs.Prelude.{◌≡◌, ◌⊎◌, ℕ, ◌+◌, ◌<◌, ◌≤◌, ◌==◌, List, [], ◌∷◌, ◌++◌, length, Bool, true, false, not, ◌||◌, if◌then◌else◌, slice_index_or}
 use Rattle.std.specs.List.{All, count_by}
 use Rattle.v_depends.specs.declared.walking.Reached.{Reached}
 
@@ -35,6 +35,10 @@ pub record Adds (bound : ℕ) (before nodes after : List ℕ) : Type 0 where
   pub behind : after ≡ before ++ more
   pub from : (node : ℕ) → is_in node more ≡ true → is_in node nodes ≡ true
   pub all : (node : ℕ) → is_in node nodes ≡ true → node < bound → is_in node after ≡ true
+
+-- a node comes behind those before, or nothing does
+abbrev pub Once : ℕ → List ℕ → List ℕ → Type 0
+Once node before after = (after ≡ before) ⊎ ((is_in node before ≡ false) × (after ≡ before ++ node ∷ []))
 
 -- a set of nodes holds the starts, and with each node the row of that node, as far as these are nodes that there are
 pub record IsClosed (bound : ℕ) (rows : List (List ℕ)) (starts : List ℕ) (holds : ℕ → Bool) : Type 0 where

@@ -17,8 +17,11 @@ pub struct Graph<'a> {
     pub edges: Vec<(usize, usize)>,
 }
 
-// The number of a name, which is a new one where the name has none.
-fn number<'a>(numbers: &mut BTreeMap<&'a [u8], usize>, name: &'a [u8]) -> Result<usize, OutOfMemory>
+/// The number of a name, which is a new one where the name has none.
+pub(crate) fn number<'a>(
+    numbers: &mut BTreeMap<&'a [u8], usize>,
+    name: &'a [u8],
+) -> Result<usize, OutOfMemory>
     ensures { IfOk result (λ i. (names : List (List ℕ)) → Numbers numbers.old names → Numbers numbers.new (name_added names name.now) × (place (name_added names name.now) name.now ≡ Some i)) }
 {
     match numbers.get(name) {

@@ -15,7 +15,10 @@ mod graph;
 mod judging;
 mod levels;
 mod marking;
+mod ordering;
 mod rows;
+mod turns;
 mod walking;
 
 pub use judging::{first_circular, first_read_through};
+pub use ordering::order;

@@ -14,8 +14,8 @@ pub(crate) fn row_of(rows: &[Items<usize>], node: usize) -> &[usize]
     }
 }
 
-// So many empty rows.
-fn empty_rows(alloc: Global, count: usize) -> Result<Vec<Items<usize>>, OutOfMemory>
+/// So many empty rows.
+pub(crate) fn empty_rows(alloc: Global, count: usize) -> Result<Vec<Items<usize>>, OutOfMemory>
     ensures long { IfOk result (λ rows. length rows.items ≡ count) }
     ensures empty { IfOk result (λ rows. (node : ℕ) → row rows.items node ≡ []) }
 {
@@ -26,8 +26,11 @@ fn empty_rows(alloc: Global, count: usize) -> Result<Vec<Items<usize>>, OutOfMem
     Ok(rows)
 }
 
-// From where an edge comes, behind what is in the row of the node to which it leads.
-fn add_source(rows: &mut Vec<Items<usize>>, edge: (usize, usize)) -> Result<(), OutOfMemory>
+/// From where an edge comes, behind what is in the row of the node to which it leads.
+pub(crate) fn add_source(
+    rows: &mut Vec<Items<usize>>,
+    edge: (usize, usize),
+) -> Result<(), OutOfMemory>
     ensures long { OnOk result (length rows.new.items ≡ length rows.old.items) }
     ensures each { OnOk result ((node : ℕ) → node < length rows.old.items → row rows.new.items node ≡ row rows.old.items node ++ sources (edge ∷ []) node) }
 {

@@ -1,5 +1,5 @@
 ghost use Rattle.std.specs.Prelude.{◌≡◌, ◌∷◌, [], length, IfOk, OnOk};
-ghost use Rattle.v_depends.specs.Nodes.{Adds, IsReached, Marked};
+ghost use Rattle.v_depends.specs.Nodes.{Adds, IsReached, Marked, Once};
 
 use crate::marking::Marks;
 use crate::rows::row_of;
@@ -13,11 +13,12 @@ pub struct Reached {
     pub order: Vec<usize>,
 }
 
-// Reaches a node, if it is one and was not reached.
-fn reach(reached: &mut Reached, node: usize) -> Result<(), OutOfMemory>
+/// Reaches a node, if it is one and was not reached.
+pub(crate) fn reach(reached: &mut Reached, node: usize) -> Result<(), OutOfMemory>
     ensures marked { OnOk result (Marked reached.old → Marked reached.new) }
     ensures long { OnOk result (length reached.new.marks ≡ length reached.old.marks) }
     ensures adds { OnOk result (Marked reached.old → Adds (length reached.old.marks) reached.old.order.items (node ∷ []) reached.new.order.items) }
+    ensures once { OnOk result (Marked reached.old → Once node reached.old.order.items reached.new.order.items) }
 {
     if reached.marks.lacks(node) {
         reached.order.push(node)?;

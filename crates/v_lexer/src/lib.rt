@@ -9,8 +9,6 @@ mod gaps;
 mod lexing;
 mod marks;
 mod numbers;
-#[cfg(test)]
-mod tests;
 mod words;
 
 pub use lexing::{lex, one_reading};

@@ -221,6 +221,29 @@ reads_same p to from = record {
   stopped = λ before at e. p.stopped before at e;
 }
 
+-- Q is what P derives, and K behind it: a production that is read in two parts
+pub record Leads {A B : Type 0} (P : Rule A) (K : A → Rule B) (Q : Rule B) : Type 0 where
+  pub to : (before after : List Token) (b : B) → r.◌>>=◌ P K before after b → Q before after b
+  pub from : (before after : List Token) (b : B) → Q before after b → r.◌>>=◌ P K before after b
+
+pub leads_yields : {A B : Type 0} {a : A} {K : A → Rule B} → Leads (r.yields a) K (K a)
+leads_yields {K = K} = record {
+  to = λ before after b (n, x, (ends, is), h). subst (λ l. K _ l after b) (sym ends) (subst (λ y. K y n after b) is h);
+  from = λ before after b h. (before, _, (refl, refl), h);
+}
+
+pub leads_all : {A B : Type 0} {P : Rule A} {K : A → Rule B} → Leads P K (r.◌>>=◌ P K)
+leads_all = record { to = λ before after b h. h; from = λ before after b h. h }
+
+pub leads_bind : {A B C : Type 0} {P : Rule A} {Q : A → Rule B} {K : B → Rule C} {R : A → Rule C} → ((a : A) → Leads (Q a) K (R a)) → Leads (r.◌>>=◌ P Q) K (r.◌>>=◌ P R)
+leads_bind p = record {
+  to = λ before after c (n, b, (m, a, ha, hb), hc). (m, a, ha, (p a).to m after c (n, b, hb, hc));
+  from = λ before after c (m, a, ha, h). let y = (p a).from m after c h in (y.0, y.1, (m, a, ha, y.2), y.3);
+}
+
+pub reads_led : {A B : Type 0} {P : Rule A} {K : A → Rule B} {Q : Rule B} {c : ℕ → Bool} {n : ℕ} {f : Reader B} → Leads P K Q → Reads (r.◌>>=◌ P K) c n f → Reads Q c n f
+reads_led leads p = reads_same p leads.to leads.from
+
 -- a production that derives the same where nothing goes on
 pub reads_same_at : {A : Type 0} {P Q : Rule A} {c : ℕ → Bool} {n : ℕ} {f : Reader A} → Reads P c n f
     → ((before after : List Token) (a : A) → P before after a → Q before after a) → ((before after : List Token) (a : A) → Q before after a → next c after ≡ false → P before after a) → Reads Q c n f

@@ -24,8 +24,8 @@ use Rattle.v_syntax.specs.ModuleGrammar.{IsValue, IsSetting, IsDeclared, IsBare,
 use Rattle.v_parser.specs.Reading as read
 use Rattle.v_parser.specs.Reading.{Reader, then_read, gives, choose, mark_code, word_code, kind, next, next_in, among, mark_at, word_at, repeated, is_comma, more_at, listed_at}
 use Rattle.v_parser.specs.Exprs.{identifiers, only}
-use Rattle.v_parser.specs.Modules.{these, flag_at, range_option_at, value_at, value_option_at, setting_at, declared_at, bare_at, variable_at, settings_at, input_at, output_at, port_kind_at, port_at, parameter_words, port_words, parameter_group_at, port_group_at, parameter_groups_at, port_groups_at, parameters_at, port_list_at, ports_at, parameter_item_at, local_parameter_item_at, wire_item_at, reg_item_at, assign_item_at, any_event_at, posedge_at, inner_event_at, event_group_at, event_at, always_item_at, item_at, not_endmodule, body_at, module_at}
-use Rattle.v_parser.proofs.Exact.{SameNext, Reads, Begins, Differs, reads_bind, reads_then, reads_yields, reads_choose, reads_same, reads_looser, reads_closed, begins_bind, begins_or, begins_among, none, apart, opens, silent, others, nothing, next_or, next_fewer, passes, only_end, ok_value, ok_rest}
+use Rattle.v_parser.specs.Modules.{these, flag_at, range_option_at, value_at, value_option_at, setting_at, declared_at, bare_at, variable_at, settings_at, input_at, output_at, port_kind_at, port_at, parameter_words, port_words, parameter_group_at, port_group_at, parameter_groups_at, port_groups_at, parameters_at, port_list_at, ports_at, parameter_item_at, local_parameter_item_at, wire_item_at, reg_item_at, assign_item_at, any_event_at, posedge_at, inner_event_at, event_group_at, event_at, always_item_at, item_at, not_endmodule, enclosed_items_at, body_at, module_at}
+use Rattle.v_parser.proofs.Exact.{SameNext, Reads, Begins, Differs, reads_bind, reads_then, reads_yields, reads_choose, reads_same, leads_yields, leads_bind, reads_led, reads_looser, reads_closed, begins_bind, begins_or, begins_among, none, apart, opens, silent, others, nothing, next_or, next_fewer, passes, only_end, ok_value, ok_rest}
 use Rattle.v_parser.proofs.Single.{reads_mark, reads_word, reads_ident}
 use Rattle.v_parser.proofs.Many.{Repeats, reads_many, reads_listed, list_goes}
 use Rattle.v_parser.proofs.Primaries.{begins_mark, begins_ident, operand_goes, binary_goes, expr_goes, reads_placed, reads_range}
@@ -486,16 +486,24 @@ begins_ports q = record {
   ];
 }
 
+abbrev EnclosedItems : Rule (List Item)
+EnclosedItems = mark m.Semicolon >> (many IsItem >>= λ items. word k.Endmodule >> yields items)
+
+reads_items : Reads EnclosedItems none 1 enclosed_items_at
+unfolding enclosed_items_at
+reads_items =
+    reads_then (reads_mark none m.Semicolon) λ _.
+    reads_bind (reads_many reads_item item_loop) (λ items. reads_then (reads_word none k.Endmodule) λ _. reads_yields none items)
+    (opens not_endmodule (41 ∷ []) refl (λ items. begins_bind (begins_word k.Endmodule)))
+
 pub reads_module : Reads IsModule none 1 module_at
 unfolding module_at body_at
 reads_module =
     reads_then (reads_word none k.Module) λ _. reads_then (reads_ident none) λ name.
     reads_bind reads_parameters (λ parameters.
     reads_bind reads_ports (λ ports.
-    reads_then (reads_mark none m.Semicolon) λ _.
-    reads_bind (reads_many reads_item item_loop) (λ items.
-    reads_then (reads_word none k.Endmodule) λ _. reads_yields none (record { name = name; parameters = parameters; ports = ports; items = items }))
-    (opens not_endmodule (41 ∷ []) refl (λ items. begins_bind (begins_word k.Endmodule))))
+    reads_led (leads_bind λ _. leads_bind λ _. leads_bind λ _. leads_yields)
+    (reads_then reads_items λ items. reads_yields none (record { name = name; parameters = parameters; ports = ports; items = items })))
     (opens (λ x. among x (only m.OpenParen)) (6 ∷ []) refl (λ ports. begins_bind (begins_mark m.Semicolon))))
     (opens (λ x. among x (only m.Hash)) (0 ∷ 6 ∷ []) refl (λ parameters. begins_ports (λ ports. begins_bind (begins_mark m.Semicolon))))
 

@@ -16,11 +16,11 @@ use Rattle.v_syntax.specs.Grammar.{between, binary_of, rank_of, IsNumber, placed
 use Rattle.v_parser.specs.Reading as read
 use Rattle.v_parser.specs.Reading.{Reader, gives, choose, mark_code, word_code, kind, next, next_in, among, mark_at, word_at, repeated, is_comma, more_at, listed_at}
 use Rattle.v_parser.specs.Exprs.{identifiers, casts, numbers, only, number_at, part_at, other_arm_at, index_at, name_at, group_at, concat_at, inner_parts_at, replicate_at, braces_at, signed_at, prefixed_at, leaf_at, operand_over_at, link_at, binary_at, arms_at, expr_over_at, nested_at, operand_at, expr_at, has_rank, ranks}
-use Rattle.v_parser.proofs.Exact.{Reads, Begins, reads_bind, reads_then, reads_yields, reads_choose, reads_same, reads_looser, reads_closed, begins_bind, begins_or, begins_among, none, apart, Parted, opens, silent, others, nothing, next_or, next_less, next_fewer}
+use Rattle.v_parser.proofs.Exact.{Reads, Begins, reads_bind, reads_then, reads_yields, reads_choose, reads_same, Leads, leads_yields, leads_all, leads_bind, reads_led, reads_looser, reads_closed, begins_bind, begins_or, begins_among, none, apart, Parted, opens, silent, others, nothing, next_or, next_less, next_fewer}
 use Rattle.v_parser.proofs.Single.{reads_mark, reads_ident, reads_sign, reads_prefix, reads_between}
 use Rattle.v_parser.proofs.Many.{after_these, Repeats, reads_many, behind_one, reads_more, reads_listed, list_goes, begins_after}
 use Rattle.v_parser.proofs.Ranks.{rank_table, rank_or}
-use Rattle.v_parser.proofs.Primaries.{begins_mark, begins_ident, begins_cast, begins_prefix, prefixes, reads_number, begins_number, operand_goes, binary_goes, expr_goes, expr_kinds, reads_placed}
+use Rattle.v_parser.proofs.Primaries.{begins_mark, begins_ident, begins_cast, begins_prefix, prefixes, reads_number, begins_number, operand_goes, binary_goes, expr_goes, expr_kinds, reads_placed, reads_opened, leads_opened, reads_bound, leads_bound}
 
 -- ---- names, with an index or a part
 
@@ -38,10 +38,7 @@ NameForm expr = ident >>= λ name. (IndexForm expr name <|> yields (e.Name name)
 
 reads_part : {expr : Rule Expr} {f : Reader Expr} (name : Ident) (bracket : ℕ) (msb : Placed) → Reads expr expr_goes 1 f → Reads (PartForm expr name bracket msb) none 1 (part_at f name bracket msb)
 unfolding part_at
-reads_part name bracket msb p =
-    reads_then (reads_mark none m.Colon) λ _.
-    reads_bind (reads_placed p) (λ lsb. reads_then (reads_mark none m.CloseBracket) λ _. reads_yields none (e.Part name bracket msb.at msb.expr lsb.at lsb.expr))
-    (opens expr_goes (3 ∷ []) refl (λ lsb. begins_bind (begins_mark m.CloseBracket)))
+reads_part name bracket msb p = reads_led leads_bound (reads_then (reads_bound p) λ lsb. reads_yields none (e.Part name bracket msb.at msb.expr lsb.at lsb.expr))
 
 begins_part : (expr : Rule Expr) (name : Ident) (bracket : ℕ) (msb : Placed) → Begins (PartForm expr name bracket msb) (7 ∷ [])
 begins_part expr name bracket msb = begins_bind (begins_mark m.Colon)
@@ -51,15 +48,14 @@ begins_select name bracket index = begins_bind (begins_mark m.CloseBracket)
 
 reads_index : {expr : Rule Expr} {f : Reader Expr} (name : Ident) → Reads expr expr_goes 1 f → Reads (IndexForm expr name) none 1 (index_at f name)
 unfolding index_at
-reads_index {expr = expr} name p =
-    reads_then (reads_mark none m.OpenBracket) λ bracket.
-    reads_bind (reads_placed p) (λ first. reads_choose 1 (only m.Colon)
-    (reads_part name bracket first p)
-    (reads_then (reads_mark none m.CloseBracket) λ _. reads_yields none (e.Select name bracket first.expr)) (omega arith) (omega arith)
-    (begins_part expr name bracket first)
-    (others (only m.Colon) (3 ∷ []) refl (begins_select name bracket first.expr)))
-    (opens expr_goes (7 ∷ 3 ∷ []) refl (λ first.
-    begins_or (begins_among (7 ∷ []) (7 ∷ 3 ∷ []) refl (begins_part expr name bracket first)) (begins_among (3 ∷ []) (7 ∷ 3 ∷ []) refl (begins_select name bracket first.expr))))
+reads_index {expr = expr} name p = reads_led leads_opened
+    (reads_bind (reads_opened p) (λ inner. reads_choose 1 (only m.Colon)
+    (reads_part name inner.0 inner.1 p)
+    (reads_then (reads_mark none m.CloseBracket) λ _. reads_yields none (e.Select name inner.0 inner.1.expr)) (omega arith) (omega arith)
+    (begins_part expr name inner.0 inner.1)
+    (others (only m.Colon) (3 ∷ []) refl (begins_select name inner.0 inner.1.expr)))
+    (opens expr_goes (7 ∷ 3 ∷ []) refl (λ inner.
+    begins_or (begins_among (7 ∷ []) (7 ∷ 3 ∷ []) refl (begins_part expr name inner.0 inner.1)) (begins_among (3 ∷ []) (7 ∷ 3 ∷ []) refl (begins_select name inner.0 inner.1.expr)))))
 
 reads_name : {expr : Rule Expr} {f : Reader Expr} → Reads expr expr_goes 1 f → Reads (NameForm expr) operand_goes 1 (name_at f)
 unfolding name_at
@@ -102,13 +98,8 @@ reads_inner p =
 
 reads_replicate : {expr : Rule Expr} {f : Reader Expr} (brace : ℕ) (count : Placed) → Reads expr expr_goes 1 f → Reads (ReplicateForm expr brace count) none 1 (replicate_at f brace count)
 unfolding replicate_at
-reads_replicate brace count p = reads_same
-    (reads_then (reads_inner p) λ inner. reads_yields none (replicate inner))
-    (λ before after x (n, inner, (n1, at, h, (n2, parts, hp, (n3, at3, h3, (n4, at4, h4, (ends, is))))), (ends2, is2)). (n1, at, h, (n2, parts, hp, (n3, at3, h3, (n4, at4, h4, (ends ∙ ends2, is2 ∙ ap replicate is))))))
-    (λ before after x (n1, at, h, (n2, parts, hp, (n3, at3, h3, (n4, at4, h4, (ends, is))))). (after, (at, parts), (n1, at, h, (n2, parts, hp, (n3, at3, h3, (n4, at4, h4, (ends, refl))))), (refl, is)))
-  where
-    replicate : ℕ × List Expr → Expr
-    replicate inner = e.Replicate brace count.at count.expr inner.0 inner.1
+reads_replicate brace count p = reads_led (leads_bind λ _. leads_bind λ _. leads_bind λ _. leads_bind λ _. leads_yields)
+    (reads_then (reads_inner p) λ inner. reads_yields none (e.Replicate brace count.at count.expr inner.0 inner.1))
 
 reads_concat : {expr : Rule Expr} {f : Reader Expr} (brace : ℕ) (first : Expr) → Reads expr expr_goes 1 f → Reads (ConcatForm expr brace first) none 0 (concat_at f brace first)
 unfolding concat_at
@@ -134,10 +125,7 @@ reads_braces {expr = expr} p =
 
 reads_signed : {expr : Rule Expr} {f : Reader Expr} → Reads expr expr_goes 1 f → Reads (IsCast expr) none 1 (signed_at f)
 unfolding signed_at
-reads_signed p =
-    reads_then (reads_sign none) λ sign. reads_then (reads_mark none m.OpenParen) λ _.
-    reads_bind p (λ x. reads_then (reads_mark none m.CloseParen) λ _. reads_yields none (e.Cast sign x))
-    (opens expr_goes (1 ∷ []) refl (λ x. begins_bind (begins_mark m.CloseParen)))
+reads_signed p = reads_then (reads_sign none) λ sign. reads_led (leads_bind λ _. leads_bind λ _. leads_bind λ _. leads_yields) (reads_then (reads_group p) λ x. reads_yields none (e.Cast sign x))
 
 reads_prefixed : {operand : Rule Expr} {f : Reader Expr} → Reads operand operand_goes 1 f → Reads (IsPrefixed operand) operand_goes 1 (prefixed_at f)
 unfolding prefixed_at
@@ -386,11 +374,12 @@ ExprForm condition arm = condition >>= λ c. (ArmsForm arm c <|> yields c)
 
 reads_other : {arm : Rule Expr} {f : Reader Expr} (c one : Expr) → Reads arm expr_goes 1 f → Reads (OtherForm arm c one) expr_goes 1 (other_arm_at f c one)
 unfolding other_arm_at
-reads_other c one p = reads_then (reads_mark none m.Colon) λ _. reads_bind p (λ other. reads_yields expr_goes (e.Conditional c one other)) (silent expr_goes)
+reads_other c one p = reads_led (leads_bind λ _. leads_all) (reads_bind (reads_then (reads_mark none m.Colon) λ _. p) (λ other. reads_yields expr_goes (e.Conditional c one other)) (silent expr_goes))
 
 reads_arms : {arm : Rule Expr} {f : Reader Expr} (c : Expr) → Reads arm expr_goes 1 f → Reads (ArmsForm arm c) expr_goes 1 (arms_at f c)
 unfolding arms_at
-reads_arms c p = reads_then (reads_mark none m.Question) λ _. reads_bind p (λ one. reads_other c one p) (opens expr_goes (7 ∷ []) refl (λ one. begins_bind (begins_mark m.Colon)))
+reads_arms c p = reads_led (leads_bind λ _. leads_all)
+    (reads_bind (reads_then (reads_mark none m.Question) λ _. p) (λ one. reads_other c one p) (opens expr_goes (7 ∷ []) refl (λ one. begins_bind (begins_mark m.Colon))))
 
 expr_to : (condition arm : Rule Expr) (before after : List Token) (x : Expr) → ExprForm condition arm before after x → IsExprOver condition arm before after x
 expr_to condition arm before after x (m, c, h, inl rest) = inr (m, c, h, rest)

@@ -6,14 +6,16 @@ use Rattle.v_syntax.specs.declared.token.Mark.{Mark}
 use Rattle.v_syntax.specs.declared.token.Mark.TheVariants as m
 use Rattle.v_syntax.specs.declared.expr.Expr.{Expr}
 use Rattle.v_syntax.specs.declared.expr.Number.{Number}
+use Rattle.v_syntax.specs.declared.expr.Placed.{Placed}
+use Rattle.v_syntax.specs.declared.expr.Range.{Range}
 use Rattle.v_syntax.specs.declared.expr.Spelling.TheVariants as s
 use Rattle.v_syntax.specs.declared.expr.UnaryOperator.{UnaryOperator}
-use Rattle.v_syntax.specs.Rule.{Rule, ◌>>=◌, ◌<|>◌, yields, mark, ident}
+use Rattle.v_syntax.specs.Rule.{Rule, ◌>>=◌, ◌>>◌, ◌<|>◌, yields, mark, ident}
 use Rattle.v_syntax.specs.Grammar.{decimal, based, cast, prefix, unary_of, IsSized, IsNumber, placed, IsRange}
 use Rattle.v_parser.specs.Reading as read
 use Rattle.v_parser.specs.Reading.{Reader, gives, choose, mark_code, word_code, kind, next, next_in, among, mark_at, word_at, repeated, is_comma, more_at, listed_at}
-use Rattle.v_parser.specs.Exprs.{identifiers, decimals, baseds, casts, numbers, based_at, number_at, placed_at, range_at, ranks}
-use Rattle.v_parser.proofs.Exact.{Reads, Begins, reads_bind, reads_then, reads_behind, reads_yields, reads_choose, reads_same, begins_bind, begins_here, begins_or, begins_among, none, opens, silent, others, nothing}
+use Rattle.v_parser.specs.Exprs.{identifiers, decimals, baseds, casts, numbers, based_at, number_at, placed_at, opened_at, bound_at, range_at, ranks}
+use Rattle.v_parser.proofs.Exact.{Reads, Begins, reads_bind, reads_then, reads_behind, reads_yields, reads_choose, reads_same, leads_yields, leads_bind, reads_led, Leads, begins_bind, begins_here, begins_or, begins_among, none, opens, silent, others, nothing}
 use Rattle.v_parser.proofs.Single.{reads_mark, reads_decimal, reads_based, reads_here, mark_here}
 
 -- ---- how single tokens begin
@@ -129,13 +131,38 @@ begins_placed b = begins_here (λ at. begins_bind b)
 
 -- ---- ranges, over the expressions in them
 
+abbrev pub OpenedForm : Rule Expr → Rule (ℕ × Placed)
+OpenedForm expr = mark m.OpenBracket >>= λ bracket. placed expr >>= λ first. yields (bracket, first)
+
+abbrev pub BoundForm : Rule Expr → Rule Placed
+BoundForm expr = mark m.Colon >> (placed expr >>= λ lsb. mark m.CloseBracket >> yields lsb)
+
+pub reads_opened : {expr : Rule Expr} {f : Reader Expr} → Reads expr expr_goes 1 f → Reads (OpenedForm expr) expr_goes 1 (opened_at f)
+unfolding opened_at
+reads_opened p = reads_then (reads_mark none m.OpenBracket) λ bracket. reads_bind (reads_placed p) (λ first. reads_yields expr_goes (bracket, first)) (silent expr_goes)
+
+pub leads_opened : {B : Type 0} {expr : Rule Expr} {K : ℕ × Placed → Rule B} → Leads (OpenedForm expr) K (mark m.OpenBracket >>= λ bracket. placed expr >>= λ first. K (bracket, first))
+leads_opened = leads_bind λ bracket. leads_bind λ first. leads_yields
+
+pub reads_bound : {expr : Rule Expr} {f : Reader Expr} → Reads expr expr_goes 1 f → Reads (BoundForm expr) none 1 (bound_at f)
+unfolding bound_at
+reads_bound p =
+    reads_then (reads_mark none m.Colon) λ _.
+    reads_bind (reads_placed p) (λ lsb. reads_then (reads_mark none m.CloseBracket) λ _. reads_yields none lsb)
+    (opens expr_goes (3 ∷ []) refl (λ lsb. begins_bind (begins_mark m.CloseBracket)))
+
+pub leads_bound : {B : Type 0} {expr : Rule Expr} {K : Placed → Rule B} → Leads (BoundForm expr) K (mark m.Colon >> (placed expr >>= λ lsb. mark m.CloseBracket >> K lsb))
+leads_bound = leads_bind λ _. leads_bind λ lsb. leads_bind λ _. leads_yields
+
+abbrev BehindOpened : Rule Expr → ℕ × Placed → Rule Range
+BehindOpened expr inner = mark m.Colon >> (placed expr >>= λ lsb. mark m.CloseBracket >> yields (record { bracket = inner.0; msb = inner.1; lsb = lsb }))
+
+reads_behind_opened : {expr : Rule Expr} {f : Reader Expr} (inner : ℕ × Placed) → Reads expr expr_goes 1 f
+    → Reads (BehindOpened expr inner) none 1 (read.◌>>=◌ (bound_at f) λ lsb. gives (record { bracket = inner.0; msb = inner.1; lsb = lsb }))
+reads_behind_opened inner p = reads_led leads_bound (reads_then (reads_bound p) λ lsb. reads_yields none (record { bracket = inner.0; msb = inner.1; lsb = lsb }))
+
 pub reads_range : {expr : Rule Expr} {f : Reader Expr} → Reads expr expr_goes 1 f → Reads (IsRange expr) none 1 (range_at f)
 unfolding range_at
-reads_range p =
-    reads_then (reads_mark none m.OpenBracket) λ bracket.
-    reads_bind (reads_placed p) (λ msb.
-    reads_then (reads_mark none m.Colon) λ _.
-    reads_bind (reads_placed p) (λ lsb.
-    reads_then (reads_mark none m.CloseBracket) λ _. reads_yields none (record { bracket = bracket; msb = msb; lsb = lsb }))
-    (opens expr_goes (3 ∷ []) refl (λ lsb. begins_bind (begins_mark m.CloseBracket))))
-    (opens expr_goes (7 ∷ []) refl (λ msb. begins_bind (begins_mark m.Colon)))
+reads_range p = reads_led leads_opened
+    (reads_bind (reads_opened p) (λ inner. reads_behind_opened inner p)
+    (opens expr_goes (7 ∷ []) refl (λ inner. begins_bind (begins_mark m.Colon))))

@@ -16,7 +16,7 @@ use Rattle.v_syntax.specs.StmtGrammar.{IsWhole, IsAssignKind, IsAssign, IsNull, 
 use Rattle.v_parser.specs.Reading.{Reader, among}
 use Rattle.v_parser.specs.Exprs.{only}
 use Rattle.v_parser.specs.Stmts.{assign_kind_at, assigned_at, assign_at, null_at, begins, elses, plain_cases, cases, defaults, not_end, not_endcase, empty_block_at, block_at, condition_at, case_kind_at, items_at, default_at, label_at, arm_at, arms_of_at, case_body_at, case_at, flat_at, simple_at}
-use Rattle.v_parser.proofs.Exact.{Reads, Begins, reads_bind, reads_then, reads_yields, reads_choose, reads_same, reads_closed, begins_bind, begins_or, begins_among, none, apart, opens, silent, others, nothing, passes, only_end}
+use Rattle.v_parser.proofs.Exact.{Reads, Begins, reads_bind, reads_then, reads_yields, reads_choose, reads_same, leads_yields, leads_bind, reads_led, reads_closed, begins_bind, begins_or, begins_among, none, apart, opens, silent, others, nothing, passes, only_end}
 use Rattle.v_parser.proofs.Single.{reads_mark, reads_word}
 use Rattle.v_parser.proofs.Many.{Repeats, reads_after, reads_many, behind_one, reads_listed, list_goes}
 use Rattle.v_parser.proofs.Primaries.{begins_mark, expr_goes, expr_kinds}
@@ -175,12 +175,9 @@ reads_case_body b p =
 
 reads_case : {stmt : Rule Stmt} {f : Reader Stmt} → Begins stmt stmt_kinds → Reads stmt stmt_goes 1 f → Reads (IsCase stmt) none 1 (case_at f)
 unfolding case_at
-reads_case b p = reads_same
-    (reads_then reads_case_kind λ kind. reads_then reads_condition λ subject. reads_then (reads_case_body b p) λ arms. reads_yields none (s.Case kind subject arms))
-    (λ before after x (n1, kind, hk, (n2, subject, hs, (n3, arms, (n4, all, ha, (n5, at, he, (ends, is))), (ends2, is2)))).
-    (n1, kind, hk, (n2, subject, hs, (n4, all, ha, (n5, at, he, (ends ∙ ends2, is2 ∙ ap (λ (y : List Arm). s.Case kind subject y) is))))))
-    (λ before after x (n1, kind, hk, (n2, subject, hs, (n4, arms, ha, (n5, at, he, (ends, is))))).
-    (n1, kind, hk, (n2, subject, hs, (after, arms, (n4, arms, ha, (n5, at, he, (ends, refl))), (refl, is)))))
+reads_case b p =
+    reads_then reads_case_kind λ kind. reads_then reads_condition λ subject.
+    reads_led (leads_bind λ _. leads_bind λ _. leads_yields) (reads_then (reads_case_body b p) λ arms. reads_yields none (s.Case kind subject arms))
 
 -- ---- statements other than if
 

@@ -15,10 +15,10 @@ use Rattle.v_syntax.specs.StmtGrammar.{IsWhole, IsPlace, IsBraced, IsTarget}
 use Rattle.v_parser.specs.Reading.{Reader, word_code, among}
 use Rattle.v_parser.specs.Exprs.{identifiers, only}
 use Rattle.v_parser.specs.Stmts.{whole_at, target_part_at, target_index_at, place_at, braced_at, target_at}
-use Rattle.v_parser.proofs.Exact.{Reads, Begins, reads_bind, reads_then, reads_yields, reads_choose, reads_same, reads_closed, begins_bind, begins_or, begins_among, none, opens, others, nothing}
+use Rattle.v_parser.proofs.Exact.{Reads, Begins, reads_bind, reads_then, reads_yields, reads_choose, reads_same, reads_led, reads_closed, begins_bind, begins_or, begins_among, none, opens, others, nothing}
 use Rattle.v_parser.proofs.Single.{reads_mark, reads_ident, word_here}
 use Rattle.v_parser.proofs.Many.{reads_listed, list_goes}
-use Rattle.v_parser.proofs.Primaries.{begins_mark, begins_ident, expr_goes, expr_kinds, reads_placed}
+use Rattle.v_parser.proofs.Primaries.{begins_mark, begins_ident, expr_goes, expr_kinds, reads_opened, leads_opened, reads_bound, leads_bound}
 use Rattle.v_parser.proofs.Operands.{reads_expr, begins_expr, placed_expr, expr_placed}
 
 pub reads_whole : Reads IsWhole expr_goes 1 whole_at
@@ -44,10 +44,7 @@ PlaceForm = ident >>= λ name. (IndexForm name <|> yields (t.Name name))
 
 reads_part : (name : Ident) (bracket : ℕ) (msb : Placed) → Reads (PartForm name bracket msb) none 1 (target_part_at name bracket msb)
 unfolding target_part_at
-reads_part name bracket msb =
-    reads_then (reads_mark none m.Colon) λ _.
-    reads_bind (reads_placed reads_whole) (λ lsb. reads_then (reads_mark none m.CloseBracket) λ _. reads_yields none (t.Part name (record { bracket = bracket; msb = msb; lsb = lsb })))
-    (opens expr_goes (3 ∷ []) refl (λ lsb. begins_bind (begins_mark m.CloseBracket)))
+reads_part name bracket msb = reads_led leads_bound (reads_then (reads_bound reads_whole) λ lsb. reads_yields none (t.Part name (record { bracket = bracket; msb = msb; lsb = lsb })))
 
 begins_part : (name : Ident) (bracket : ℕ) (msb : Placed) → Begins (PartForm name bracket msb) (7 ∷ [])
 begins_part name bracket msb = begins_bind (begins_mark m.Colon)
@@ -57,15 +54,14 @@ begins_select name bracket index = begins_bind (begins_mark m.CloseBracket)
 
 reads_index : (name : Ident) → Reads (IndexForm name) none 1 (target_index_at name)
 unfolding target_index_at
-reads_index name =
-    reads_then (reads_mark none m.OpenBracket) λ bracket.
-    reads_bind (reads_placed reads_whole) (λ first. reads_choose 1 (only m.Colon)
-    (reads_part name bracket first)
-    (reads_then (reads_mark none m.CloseBracket) λ _. reads_yields none (t.Select name bracket first.expr)) (omega arith) (omega arith)
-    (begins_part name bracket first)
-    (others (only m.Colon) (3 ∷ []) refl (begins_select name bracket first.expr)))
-    (opens expr_goes (7 ∷ 3 ∷ []) refl (λ first.
-    begins_or (begins_among (7 ∷ []) (7 ∷ 3 ∷ []) refl (begins_part name bracket first)) (begins_among (3 ∷ []) (7 ∷ 3 ∷ []) refl (begins_select name bracket first.expr))))
+reads_index name = reads_led leads_opened
+    (reads_bind (reads_opened reads_whole) (λ inner. reads_choose 1 (only m.Colon)
+    (reads_part name inner.0 inner.1)
+    (reads_then (reads_mark none m.CloseBracket) λ _. reads_yields none (t.Select name inner.0 inner.1.expr)) (omega arith) (omega arith)
+    (begins_part name inner.0 inner.1)
+    (others (only m.Colon) (3 ∷ []) refl (begins_select name inner.0 inner.1.expr)))
+    (opens expr_goes (7 ∷ 3 ∷ []) refl (λ inner.
+    begins_or (begins_among (7 ∷ []) (7 ∷ 3 ∷ []) refl (begins_part name inner.0 inner.1)) (begins_among (3 ∷ []) (7 ∷ 3 ∷ []) refl (begins_select name inner.0 inner.1.expr)))))
 
 abbrev pub target_goes : ℕ → Bool
 target_goes x = among x (2 ∷ [])

@@ -16,7 +16,7 @@ use Rattle.v_syntax.specs.declared.expr.Range.{Range}
 use Rattle.v_syntax.specs.declared.expr.UnaryOperator.{UnaryOperator}
 use Rattle.v_syntax.specs.declared.expr.BinaryOperator.{BinaryOperator}
 use Rattle.v_syntax.specs.Grammar.{unary_of, binary_of, rank_of, chain}
-use Rattle.v_parser.specs.Reading.{Reader, ◌>>=◌, ◌>>◌, gives, mark_code, choose, repeated, more_at, listed_at, mark_at, here_at, ident_at}
+use Rattle.v_parser.specs.Reading.{Reader, ◌>>=◌, ◌>>◌, gives, mark_code, choose, repeated, more_at, listed_at, mark_at, before_at, behind_at, here_at, ident_at}
 
 abbrev pub identifiers : List ℕ
 identifiers = 60 ∷ []
@@ -138,14 +138,25 @@ number_at = choose decimals
 abbrev pub placed_at : Reader Expr → Reader Placed
 placed_at f = here_at >>= λ at. f >>= λ x. gives (record { at = at; expr = x })
 
-unfoldable pub range_at : Reader Expr → Reader Range
-range_at expr = do
+-- an opening bracket, and the expression behind it
+unfoldable pub opened_at : Reader Expr → Reader (ℕ × Placed)
+opened_at expr = do
   bracket ← mark_at m.OpenBracket
-  msb ← placed_at expr
+  first ← placed_at expr
+  gives (bracket, first)
+
+-- the second bound of a range, from the colon to the closing bracket
+unfoldable pub bound_at : Reader Expr → Reader Placed
+bound_at expr = do
   mark_at m.Colon
   lsb ← placed_at expr
-  mark_at m.CloseBracket
-  gives (record { bracket = bracket; msb = msb; lsb = lsb })
+  before_at m.CloseBracket lsb
+
+unfoldable pub range_at : Reader Expr → Reader Range
+range_at expr = do
+  inner ← opened_at expr
+  lsb ← bound_at expr
+  gives (record { bracket = inner.0; msb = inner.1; lsb = lsb })
 
 -- the ranks of the marks by their codes; 99 is no operator
 abbrev pub ranks : List ℕ
@@ -156,17 +167,12 @@ abbrev pub has_rank : ℕ → ℕ → Bool
 has_rank rank x = get_or ranks x 99 == rank
 
 unfoldable pub part_at : Reader Expr → Ident → ℕ → Placed → Reader Expr
-part_at expr name bracket msb = do
-  mark_at m.Colon
-  lsb ← placed_at expr
-  mark_at m.CloseBracket
-  gives (e.Part name bracket msb.at msb.expr lsb.at lsb.expr)
+part_at expr name bracket msb = bound_at expr >>= λ lsb. gives (e.Part name bracket msb.at msb.expr lsb.at lsb.expr)
 
 unfoldable pub index_at : Reader Expr → Ident → Reader Expr
 index_at expr name = do
-  bracket ← mark_at m.OpenBracket
-  first ← placed_at expr
-  choose (only m.Colon) (part_at expr name bracket first) (mark_at m.CloseBracket >> gives (e.Select name bracket first.expr))
+  inner ← opened_at expr
+  choose (only m.Colon) (part_at expr name inner.0 inner.1) (before_at m.CloseBracket (e.Select name inner.0 inner.1.expr))
 
 unfoldable pub name_at : Reader Expr → Reader Expr
 name_at expr = ident_at >>= λ name. choose (only m.OpenBracket) (index_at expr name) (gives (e.Name name))
@@ -175,11 +181,10 @@ unfoldable pub group_at : Reader Expr → Reader Expr
 group_at expr = do
   mark_at m.OpenParen
   x ← expr
-  mark_at m.CloseParen
-  gives x
+  before_at m.CloseParen x
 
 unfoldable pub concat_at : Reader Expr → ℕ → Expr → Reader Expr
-concat_at expr brace first = more_at expr (first ∷ []) >>= λ parts. mark_at m.CloseBrace >> gives (e.Concat brace parts)
+concat_at expr brace first = more_at expr (first ∷ []) >>= λ parts. before_at m.CloseBrace (e.Concat brace parts)
 
 -- the inner brace and the parts of a replication, up to its end
 unfoldable pub inner_parts_at : Reader Expr → Reader (ℕ × List Expr)
@@ -187,8 +192,7 @@ inner_parts_at expr = do
   inner ← mark_at m.OpenBrace
   parts ← listed_at expr
   mark_at m.CloseBrace
-  mark_at m.CloseBrace
-  gives (inner, parts)
+  before_at m.CloseBrace (inner, parts)
 
 unfoldable pub replicate_at : Reader Expr → ℕ → Placed → Reader Expr
 replicate_at expr brace count = inner_parts_at expr >>= λ inner. gives (e.Replicate brace count.at count.expr inner.0 inner.1)
@@ -200,12 +204,7 @@ braces_at expr = do
   choose (only m.OpenBrace) (replicate_at expr brace first) (concat_at expr brace first.expr)
 
 unfoldable pub signed_at : Reader Expr → Reader Expr
-signed_at expr = do
-  sign ← cast_at
-  mark_at m.OpenParen
-  x ← expr
-  mark_at m.CloseParen
-  gives (e.Cast sign x)
+signed_at expr = cast_at >>= λ sign. group_at expr >>= λ x. gives (e.Cast sign x)
 
 unfoldable pub prefixed_at : Reader Expr → Reader Expr
 prefixed_at operand = prefix_at >>= λ op. operand >>= λ x. gives (e.Unary op x)
@@ -230,16 +229,10 @@ binary_at operand (suc rank) =
     binary_at operand rank >>= λ first. repeated (has_rank (suc rank)) (link_at (suc rank) (binary_at operand rank)) [] >>= λ others. gives (chain first others)
 
 unfoldable pub other_arm_at : Reader Expr → Expr → Expr → Reader Expr
-other_arm_at arm condition one = do
-  mark_at m.Colon
-  other ← arm
-  gives (e.Conditional condition one other)
+other_arm_at arm condition one = behind_at m.Colon arm >>= λ other. gives (e.Conditional condition one other)
 
 unfoldable pub arms_at : Reader Expr → Expr → Reader Expr
-arms_at arm condition = do
-  mark_at m.Question
-  one ← arm
-  other_arm_at arm condition one
+arms_at arm condition = behind_at m.Question arm >>= λ one. other_arm_at arm condition one
 
 unfoldable pub expr_over_at : Reader Expr → Reader Expr → Reader Expr
 expr_over_at condition arm = condition >>= λ c. choose (only m.Question) (arms_at arm c) (gives c)

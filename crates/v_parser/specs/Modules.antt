@@ -218,13 +218,17 @@ item_at = choose (these k.Parameter) parameter_item_at
 abbrev pub not_endmodule : ℕ → Bool
 not_endmodule x = not (x == 41)
 
--- what stands behind the ports
-unfoldable pub body_at : Ident → List ParameterGroup → List PortGroup → Reader Module
-body_at name parameters ports = do
+-- the items, from the semicolon to the end
+unfoldable pub enclosed_items_at : Reader (List Item)
+enclosed_items_at = do
   mark_at m.Semicolon
   items ← repeated not_endmodule item_at []
   word_at k.Endmodule
-  gives (record { name = name; parameters = parameters; ports = ports; items = items })
+  gives items
+
+-- what stands behind the ports
+unfoldable pub body_at : Ident → List ParameterGroup → List PortGroup → Reader Module
+body_at name parameters ports = enclosed_items_at >>= λ items. gives (record { name = name; parameters = parameters; ports = ports; items = items })
 
 unfoldable pub module_at : Reader Module
 module_at = do

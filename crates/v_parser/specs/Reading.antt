@@ -124,6 +124,17 @@ mark_at x = kind_at (mark_code x)
 abbrev pub word_at : Keyword → Reader ℕ
 word_at x = kind_at (word_code x)
 
+-- a value, before a mark or a word
+abbrev pub before_at : {A : Type 0} → Mark → A → Reader A
+before_at x a = mark_at x >> gives a
+
+abbrev pub before_word_at : {A : Type 0} → Keyword → A → Reader A
+before_word_at x a = word_at x >> gives a
+
+-- what is read behind a mark
+abbrev pub behind_at : {A : Type 0} → Mark → Reader A → Reader A
+behind_at x f = mark_at x >> f
+
 unfoldable pub here_at : Reader ℕ
 here_at [] = Err []
 here_at (t ∷ tokens) = Ok (t.at, t ∷ tokens)
@@ -163,7 +174,7 @@ is_comma x = among x (8 ∷ [])
 
 -- { "," f }, behind what was read before
 abbrev pub more_at : {A : Type 0} → Reader A → List A → Reader (List A)
-more_at f = repeated is_comma (mark_at m.Comma >> f)
+more_at f = repeated is_comma (behind_at m.Comma f)
 
 -- f { "," f }
 abbrev pub listed_at : {A : Type 0} → Reader A → Reader (List A)

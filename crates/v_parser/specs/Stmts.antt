@@ -17,25 +17,20 @@ use Rattle.v_syntax.specs.declared.stmt.Arm.{Arm}
 use Rattle.v_syntax.specs.declared.stmt.Stmt.{Stmt}
 use Rattle.v_syntax.specs.declared.stmt.Stmt.TheVariants as s
 use Rattle.v_syntax.specs.Grammar.{inner_levels}
-use Rattle.v_parser.specs.Reading.{Reader, ◌>>=◌, ◌>>◌, gives, choose, repeated, listed_at, mark_at, word_at, ident_at}
-use Rattle.v_parser.specs.Exprs.{only, placed_at, expr_at}
+use Rattle.v_parser.specs.Reading.{Reader, ◌>>=◌, ◌>>◌, gives, choose, repeated, listed_at, mark_at, word_at, before_at, before_word_at, ident_at}
+use Rattle.v_parser.specs.Exprs.{only, opened_at, bound_at, expr_at}
 
 abbrev pub whole_at : Reader Expr
 whole_at = expr_at inner_levels
 
 -- what stands behind the first bound of a part
 unfoldable pub target_part_at : Ident → ℕ → Placed → Reader Target
-target_part_at name bracket msb = do
-  mark_at m.Colon
-  lsb ← placed_at whole_at
-  mark_at m.CloseBracket
-  gives (t.Part name (record { bracket = bracket; msb = msb; lsb = lsb }))
+target_part_at name bracket msb = bound_at whole_at >>= λ lsb. gives (t.Part name (record { bracket = bracket; msb = msb; lsb = lsb }))
 
 unfoldable pub target_index_at : Ident → Reader Target
 target_index_at name = do
-  bracket ← mark_at m.OpenBracket
-  first ← placed_at whole_at
-  choose (only m.Colon) (target_part_at name bracket first) (mark_at m.CloseBracket >> gives (t.Select name bracket first.expr))
+  inner ← opened_at whole_at
+  choose (only m.Colon) (target_part_at name inner.0 inner.1) (before_at m.CloseBracket (t.Select name inner.0 inner.1.expr))
 
 unfoldable pub place_at : Reader Target
 place_at = ident_at >>= λ name. choose (only m.OpenBracket) (target_index_at name) (gives (t.Name name))
@@ -140,7 +135,7 @@ arms_of_at stmt = arm_at stmt >>= λ first. repeated not_endcase (arm_at stmt) (
 
 -- the arms of a case, up to its end
 unfoldable pub case_body_at : Reader Stmt → Reader (List Arm)
-case_body_at stmt = arms_of_at stmt >>= λ arms. word_at k.Endcase >> gives arms
+case_body_at stmt = arms_of_at stmt >>= λ arms. before_word_at k.Endcase arms
 
 unfoldable pub case_at : Reader Stmt → Reader Stmt
 case_at stmt = do

@@ -1,13 +1,13 @@
 ghost use Rattle.std.specs.Prelude.{◌≡◌, ◌≤◌, ◌<◌, ◌-◌, [], ◌∷◌, Ok, Err, IfOk, length};
-ghost use Rattle.v_parser.specs.Reading.{more_at, listed_at, repeated};
-ghost use Rattle.v_parser.specs.Exprs.{number_at, range_at, placed_at, operand_at, expr_at, operand_over_at, name_at, index_at, part_at, other_arm_at, group_at, braces_at, concat_at, inner_parts_at, replicate_at, signed_at, prefixed_at, leaf_at, binary_at, link_at, arms_at, has_rank};
+ghost use Rattle.v_parser.specs.Reading.{before_at, behind_at, more_at, listed_at, repeated};
+ghost use Rattle.v_parser.specs.Exprs.{number_at, range_at, opened_at, bound_at, placed_at, operand_at, expr_at, operand_over_at, name_at, index_at, part_at, other_arm_at, group_at, braces_at, concat_at, inner_parts_at, replicate_at, signed_at, prefixed_at, leaf_at, binary_at, link_at, arms_at, has_rank};
 ghost use Rattle.v_syntax.specs.Grammar.{chain};
 ghost use Rattle.v_parser.specs.Gives.{Gives};
 
 use crate::miss::{Miss, Read};
 use crate::tokens::{
-    based, between, cast, decimal, here, ident, mark, next_has_rank, next_is, next_is_based,
-    next_is_cast, next_is_decimal, next_is_name, next_is_number, prefix,
+    based, before, between, cast, decimal, here, ident, mark, next_has_rank, next_is,
+    next_is_based, next_is_cast, next_is_decimal, next_is_name, next_is_number, prefix,
 };
 use lz_base::{Boxed, Items, OutOfMemory};
 use std::alloc::Global;
@@ -73,6 +73,40 @@ pub(crate) fn placed<'t>(alloc: Global, tokens: &'t [Token], depth: u32) -> Read
     Ok((Placed { at, expr }, rest))
 }
 
+// An expression behind this mark.
+#[cycle(parser)]
+fn behind<'t>(alloc: Global, tokens: &'t [Token], depth: u32, wanted: Mark) -> Read<'t, Expr>
+    ensures gives { Gives (λ x. (x.0, x.1.now)) result (behind_at wanted (expr_at depth) tokens.now) }
+    ensures shorter { IfOk result (λ x. length x.1.now < length tokens.now) }
+{
+    let (_, rest) = mark(tokens, wanted)?;
+    expr(alloc, rest, depth)
+}
+
+// An opening bracket, and the expression behind it.
+#[cycle(parser)]
+#[tactic(auto, unfolding(crate::specs::Exprs::opened_at))]
+pub(crate) fn opened<'t>(alloc: Global, tokens: &'t [Token], depth: u32) -> Read<'t, (u64, Placed)>
+    ensures gives { Gives (λ x. (x.0, x.1.now)) result (opened_at (expr_at depth) tokens.now) }
+    ensures shorter { IfOk result (λ x. length x.1.now < length tokens.now) }
+{
+    let (bracket, rest) = mark(tokens, Mark::OpenBracket)?;
+    let (first, rest) = placed(alloc, rest, depth)?;
+    Ok(((bracket, first), rest))
+}
+
+// The second bound of a range, from the colon to the closing bracket.
+#[cycle(parser)]
+#[tactic(auto, unfolding(crate::specs::Exprs::bound_at))]
+pub(crate) fn bound<'t>(alloc: Global, tokens: &'t [Token], depth: u32) -> Read<'t, Placed>
+    ensures gives { Gives (λ x. (x.0, x.1.now)) result (bound_at (expr_at depth) tokens.now) }
+    ensures shorter { IfOk result (λ x. length x.1.now < length tokens.now) }
+{
+    let (_, rest) = mark(tokens, Mark::Colon)?;
+    let (lsb, rest) = placed(alloc, rest, depth)?;
+    before(lsb, rest, Mark::CloseBracket)
+}
+
 fn select_of(alloc: Global, name: Ident, bracket: u64, index: Expr) -> Result<Expr, OutOfMemory>
     ensures { IfOk result (λ x. x ≡ Expr.Select name bracket index) }
 {
@@ -81,6 +115,32 @@ fn select_of(alloc: Global, name: Ident, bracket: u64, index: Expr) -> Result<Ex
         bracket,
         index: Boxed::new(alloc, index)?,
     })
+}
+
+// A selected bit, before the closing bracket.
+fn select<'t>(
+    alloc: Global,
+    tokens: &'t [Token],
+    name: Ident,
+    bracket: u64,
+    index: Expr,
+) -> Read<'t, Expr>
+    ensures gives { Gives (λ x. (x.0, x.1.now)) result (before_at Mark.CloseBracket (Expr.Select name bracket index) tokens.now) }
+    ensures shorter { IfOk result (λ x. length x.1.now < length tokens.now) }
+{
+    let (_, rest) = mark(tokens, Mark::CloseBracket)?;
+    Ok((select_of(alloc, name, bracket, index)?, rest))
+}
+
+fn boxed_two(
+    alloc: Global,
+    first: Expr,
+    second: Expr,
+) -> Result<(Boxed<Expr>, Boxed<Expr>), OutOfMemory>
+    ensures { IfOk result (λ x. x ≡ (first, second)) }
+{
+    let first = Boxed::new(alloc, first)?;
+    Ok((first, Boxed::new(alloc, second)?))
 }
 
 fn part_of(
@@ -93,9 +153,8 @@ fn part_of(
     ensures { IfOk result (λ x. x ≡ Expr.Part name bracket msb.at msb.expr lsb.at lsb.expr) }
 {
     let msb_at = msb.at;
-    let msb = Boxed::new(alloc, msb.expr)?;
     let lsb_at = lsb.at;
-    let lsb = Boxed::new(alloc, lsb.expr)?;
+    let (msb, lsb) = boxed_two(alloc, msb.expr, lsb.expr)?;
     Ok(Expr::Part {
         name,
         bracket,
@@ -115,8 +174,8 @@ fn conditional_of(
     ensures { IfOk result (λ x. x ≡ Expr.Conditional condition one other) }
 {
     let condition = Boxed::new(alloc, condition)?;
-    let one = Boxed::new(alloc, one)?;
-    Ok(Expr::Conditional(condition, one, Boxed::new(alloc, other)?))
+    let (one, other) = boxed_two(alloc, one, other)?;
+    Ok(Expr::Conditional(condition, one, other))
 }
 
 fn replicate_of(
@@ -153,9 +212,7 @@ fn part<'t>(
     ensures gives { Gives (λ x. (x.0, x.1.now)) result (part_at (expr_at depth) name bracket msb tokens.now) }
     ensures shorter { IfOk result (λ x. length x.1.now < length tokens.now) }
 {
-    let (_, rest) = mark(tokens, Mark::Colon)?;
-    let (lsb, rest) = placed(alloc, rest, depth)?;
-    let (_, rest) = mark(rest, Mark::CloseBracket)?;
+    let (lsb, rest) = bound(alloc, tokens, depth)?;
     Ok((part_of(alloc, name, bracket, msb, lsb)?, rest))
 }
 
@@ -165,13 +222,12 @@ fn index<'t>(alloc: Global, tokens: &'t [Token], depth: u32, name: Ident) -> Rea
     ensures gives { Gives (λ x. (x.0, x.1.now)) result (index_at (expr_at depth) name tokens.now) }
     ensures shorter { IfOk result (λ x. length x.1.now < length tokens.now) }
 {
-    let (bracket, rest) = mark(tokens, Mark::OpenBracket)?;
-    let (first, rest) = placed(alloc, rest, depth)?;
+    let (inner, rest) = opened(alloc, tokens, depth)?;
+    let (bracket, first) = inner;
     if next_is(rest, Mark::Colon) {
         part(alloc, rest, depth, name, bracket, first)
     } else {
-        let (_, rest) = mark(rest, Mark::CloseBracket)?;
-        Ok((select_of(alloc, name, bracket, first.expr)?, rest))
+        select(alloc, rest, name, bracket, first.expr)
     }
 }
 
@@ -197,13 +253,12 @@ fn group<'t>(alloc: Global, tokens: &'t [Token], depth: u32) -> Read<'t, Expr>
 {
     let (_, rest) = mark(tokens, Mark::OpenParen)?;
     let (inner, rest) = expr(alloc, rest, depth)?;
-    let (_, rest) = mark(rest, Mark::CloseParen)?;
-    Ok((inner, rest))
+    before(inner, rest, Mark::CloseParen)
 }
 
 // More expressions behind commas.
 #[cycle(parser)]
-#[tactic(auto, using(crate::proofs::Loop::more_stop, crate::proofs::Loop::more_step))]
+#[tactic(auto, using(crate::proofs::Loop::repeated_stop, crate::proofs::Loop::repeated_step))]
 pub(crate) fn more_exprs<'t>(
     alloc: Global,
     tokens: &'t [Token],
@@ -217,12 +272,20 @@ pub(crate) fn more_exprs<'t>(
     parts.push(first)?;
     let mut left = tokens;
     while next_is(left, Mark::Comma) {
-        let (_, rest) = mark(left, Mark::Comma)?;
-        let (part, after) = expr(alloc, rest, depth)?;
+        let (part, after) = behind(alloc, left, depth, Mark::Comma)?;
         parts.push(part)?;
         left = after;
     }
     Ok((parts, left))
+}
+
+// A value, before two closing braces.
+fn before_braces<'t, T: Drop>(value: T, tokens: &'t [Token]) -> Read<'t, T>
+    ensures gives { Gives (λ x. (x.0, x.1.now)) result (behind_at Mark.CloseBrace (before_at Mark.CloseBrace value) tokens.now) }
+    ensures shorter { IfOk result (λ x. length x.1.now < length tokens.now) }
+{
+    let (_, rest) = mark(tokens, Mark::CloseBrace)?;
+    before(value, rest, Mark::CloseBrace)
 }
 
 // The inner brace and the parts of a replication, up to its end.
@@ -235,9 +298,7 @@ fn inner_parts<'t>(alloc: Global, tokens: &'t [Token], depth: u32) -> Read<'t, (
     let (inner_brace, rest) = mark(tokens, Mark::OpenBrace)?;
     let (first, rest) = expr(alloc, rest, depth)?;
     let (parts, rest) = more_exprs(alloc, rest, depth, first)?;
-    let (_, rest) = mark(rest, Mark::CloseBrace)?;
-    let (_, rest) = mark(rest, Mark::CloseBrace)?;
-    Ok(((inner_brace, parts), rest))
+    before_braces((inner_brace, parts), rest)
 }
 
 #[cycle(parser)]
@@ -270,8 +331,7 @@ fn concat<'t>(
     ensures shorter { IfOk result (λ x. length x.1.now < length tokens.now) }
 {
     let (parts, rest) = more_exprs(alloc, tokens, depth, first)?;
-    let (_, rest) = mark(rest, Mark::CloseBrace)?;
-    Ok((Expr::Concat { brace, parts }, rest))
+    before(Expr::Concat { brace, parts }, rest, Mark::CloseBrace)
 }
 
 #[cycle(parser)]
@@ -296,9 +356,7 @@ fn signed<'t>(alloc: Global, tokens: &'t [Token], depth: u32) -> Read<'t, Expr>
     ensures shorter { IfOk result (λ x. length x.1.now < length tokens.now) }
 {
     let (sign, rest) = cast(tokens)?;
-    let (_, rest) = mark(rest, Mark::OpenParen)?;
-    let (inner, rest) = expr(alloc, rest, depth)?;
-    let (_, rest) = mark(rest, Mark::CloseParen)?;
+    let (inner, rest) = group(alloc, rest, depth)?;
     Ok((Expr::Cast(sign, Boxed::new(alloc, inner)?), rest))
 }
 
@@ -418,8 +476,7 @@ fn other_arm<'t>(
     ensures gives { Gives (λ x. (x.0, x.1.now)) result (other_arm_at (expr_at depth) condition one tokens.now) }
     ensures shorter { IfOk result (λ x. length x.1.now < length tokens.now) }
 {
-    let (_, rest) = mark(tokens, Mark::Colon)?;
-    let (other, rest) = expr(alloc, rest, depth)?;
+    let (other, rest) = behind(alloc, tokens, depth, Mark::Colon)?;
     Ok((conditional_of(alloc, condition, one, other)?, rest))
 }
 
@@ -429,8 +486,7 @@ fn arms<'t>(alloc: Global, tokens: &'t [Token], depth: u32, condition: Expr) -> 
     ensures gives { Gives (λ x. (x.0, x.1.now)) result (arms_at (expr_at depth) condition tokens.now) }
     ensures shorter { IfOk result (λ x. length x.1.now < length tokens.now) }
 {
-    let (_, rest) = mark(tokens, Mark::Question)?;
-    let (one, rest) = expr(alloc, rest, depth)?;
+    let (one, rest) = behind(alloc, tokens, depth, Mark::Question)?;
     other_arm(alloc, rest, depth, condition, one)
 }
 
@@ -453,10 +509,8 @@ pub(crate) fn range<'t>(alloc: Global, tokens: &'t [Token], depth: u32) -> Read<
     ensures gives { Gives (λ x. (x.0, x.1.now)) result (range_at (expr_at depth) tokens.now) }
     ensures shorter { IfOk result (λ x. length x.1.now < length tokens.now) }
 {
-    let (bracket, rest) = mark(tokens, Mark::OpenBracket)?;
-    let (msb, rest) = placed(alloc, rest, depth)?;
-    let (_, rest) = mark(rest, Mark::Colon)?;
-    let (lsb, rest) = placed(alloc, rest, depth)?;
-    let (_, rest) = mark(rest, Mark::CloseBracket)?;
+    let (inner, rest) = opened(alloc, tokens, depth)?;
+    let (bracket, msb) = inner;
+    let (lsb, rest) = bound(alloc, rest, depth)?;
     Ok((Range { bracket, msb, lsb }, rest))
 }

@@ -5,7 +5,7 @@ ghost use Rattle.v_parser.specs.Gives.{Gives};
 use crate::declarations::{declared_list, flag, range_option, settings_list, variable_list};
 use crate::miss::{Miss, Read};
 use crate::stmts::stmt;
-use crate::tokens::{ident, mark, next_is, next_word, word};
+use crate::tokens::{before, ident, mark, next_is, next_word, word};
 use std::alloc::Global;
 use v_syntax::{Event, INNER_LEVELS, Item, Keyword, Mark, ParameterGroup, Token};
 
@@ -34,8 +34,7 @@ fn parameter_item<'t>(alloc: Global, tokens: &'t [Token]) -> Read<'t, Item>
 {
     let (_, rest) = word(tokens, Keyword::Parameter)?;
     let (group, rest) = settings(alloc, rest)?;
-    let (_, rest) = mark(rest, Mark::Semicolon)?;
-    Ok((Item::Parameters(group), rest))
+    before(Item::Parameters(group), rest, Mark::Semicolon)
 }
 
 #[tactic(auto, unfolding(crate::specs::Modules::local_parameter_item_at))]
@@ -45,8 +44,7 @@ fn local_parameter_item<'t>(alloc: Global, tokens: &'t [Token]) -> Read<'t, Item
 {
     let (_, rest) = word(tokens, Keyword::Localparam)?;
     let (group, rest) = settings(alloc, rest)?;
-    let (_, rest) = mark(rest, Mark::Semicolon)?;
-    Ok((Item::LocalParameters(group), rest))
+    before(Item::LocalParameters(group), rest, Mark::Semicolon)
 }
 
 #[tactic(auto, unfolding(crate::specs::Modules::wire_item_at))]
@@ -58,15 +56,12 @@ fn wire_item<'t>(alloc: Global, tokens: &'t [Token]) -> Read<'t, Item>
     let (signed, rest) = flag(rest, Keyword::Signed)?;
     let (range, rest) = range_option(alloc, rest)?;
     let (nets, rest) = declared_list(alloc, rest)?;
-    let (_, rest) = mark(rest, Mark::Semicolon)?;
-    Ok((
-        Item::Wires {
-            signed,
-            range,
-            nets,
-        },
-        rest,
-    ))
+    let wires = Item::Wires {
+        signed,
+        range,
+        nets,
+    };
+    before(wires, rest, Mark::Semicolon)
 }
 
 #[tactic(auto, unfolding(crate::specs::Modules::reg_item_at))]
@@ -78,15 +73,12 @@ fn reg_item<'t>(alloc: Global, tokens: &'t [Token]) -> Read<'t, Item>
     let (signed, rest) = flag(rest, Keyword::Signed)?;
     let (range, rest) = range_option(alloc, rest)?;
     let (variables, rest) = variable_list(alloc, rest)?;
-    let (_, rest) = mark(rest, Mark::Semicolon)?;
-    Ok((
-        Item::Regs {
-            signed,
-            range,
-            variables,
-        },
-        rest,
-    ))
+    let regs = Item::Regs {
+        signed,
+        range,
+        variables,
+    };
+    before(regs, rest, Mark::Semicolon)
 }
 
 #[tactic(auto, unfolding(crate::specs::Modules::assign_item_at))]
@@ -96,8 +88,7 @@ fn assign_item<'t>(alloc: Global, tokens: &'t [Token]) -> Read<'t, Item>
 {
     let (_, rest) = word(tokens, Keyword::Assign)?;
     let (settings, rest) = settings_list(alloc, rest)?;
-    let (_, rest) = mark(rest, Mark::Semicolon)?;
-    Ok((Item::Assigns(settings), rest))
+    before(Item::Assigns(settings), rest, Mark::Semicolon)
 }
 
 #[tactic(auto, unfolding(crate::specs::Modules::any_event_at))]
@@ -139,8 +130,7 @@ fn event_group<'t>(alloc: Global, tokens: &'t [Token]) -> Read<'t, Event>
 {
     let (_, rest) = mark(tokens, Mark::OpenParen)?;
     let (event, rest) = inner_event(alloc, rest)?;
-    let (_, rest) = mark(rest, Mark::CloseParen)?;
-    Ok((event, rest))
+    before(event, rest, Mark::CloseParen)
 }
 
 #[tactic(auto, unfolding(crate::specs::Modules::event_at))]

@@ -1,13 +1,15 @@
 ghost use Rattle.std.specs.Prelude.{◌≡◌, ◌≤◌, ◌<◌, [], ◌∷◌, Ok, Err, IfOk, length, true};
 ghost use Rattle.v_parser.specs.Reading.{repeated, among};
 ghost use Rattle.v_parser.specs.Exprs.{identifiers};
-ghost use Rattle.v_parser.specs.Modules.{parameter_groups_at, port_groups_at, parameters_at, port_list_at, ports_at, item_at, not_endmodule, body_at, module_at, parameter_group_at, port_group_at, parameter_words, port_words};
+ghost use Rattle.v_parser.specs.Modules.{parameter_groups_at, port_groups_at, parameters_at, port_list_at, ports_at, item_at, not_endmodule, enclosed_items_at, body_at, module_at, parameter_group_at, port_group_at, parameter_words, port_words};
 ghost use Rattle.v_parser.specs.Gives.{Gives};
 
 use crate::groups::{parameter_group, port_group};
 use crate::items::item;
 use crate::miss::{Miss, Read};
-use crate::tokens::{ident, mark, next_is, next_is_not, next_is_port_word, next_word, word};
+use crate::tokens::{
+    before, before_word, ident, mark, next_is, next_is_not, next_is_port_word, next_word, word,
+};
 use lz_base::Items;
 use std::alloc::Global;
 use v_syntax::{Ident, Item, Keyword, Mark, Module, ParameterGroup, PortGroup, Token};
@@ -52,8 +54,7 @@ fn parameters<'t>(alloc: Global, tokens: &'t [Token]) -> Read<'t, Items<Paramete
     let (_, rest) = mark(tokens, Mark::Hash)?;
     let (_, rest) = mark(rest, Mark::OpenParen)?;
     let (groups, rest) = parameter_groups(alloc, rest)?;
-    let (_, rest) = mark(rest, Mark::CloseParen)?;
-    Ok((groups, rest))
+    before(groups, rest, Mark::CloseParen)
 }
 
 #[tactic(auto, using(crate::proofs::Loop::repeated_stop, crate::proofs::Loop::repeated_step))]
@@ -96,8 +97,7 @@ fn port_list<'t>(alloc: Global, tokens: &'t [Token]) -> Read<'t, Items<PortGroup
         return Ok((Items::new(alloc), rest));
     }
     let (groups, rest) = port_groups(alloc, tokens)?;
-    let (_, rest) = mark(rest, Mark::CloseParen)?;
-    Ok((groups, rest))
+    before(groups, rest, Mark::CloseParen)
 }
 
 #[tactic(auto, unfolding(crate::specs::Modules::ports_at))]
@@ -135,14 +135,23 @@ struct Head {
     ports: Items<PortGroup>,
 }
 
+// The items, from the semicolon to the end.
+#[tactic(auto, unfolding(crate::specs::Modules::enclosed_items_at))]
+fn enclosed_items<'t>(alloc: Global, tokens: &'t [Token]) -> Read<'t, Items<Item>>
+    ensures gives { Gives (λ x. (x.0, x.1.now)) result (enclosed_items_at tokens.now) }
+    ensures shorter { IfOk result (λ x. length x.1.now < length tokens.now) }
+{
+    let (_, rest) = mark(tokens, Mark::Semicolon)?;
+    let (items, rest) = items(alloc, rest)?;
+    before_word(items, rest, Keyword::Endmodule)
+}
+
 // What stands behind the head.
 #[tactic(auto, unfolding(crate::specs::Modules::body_at))]
 fn body<'t>(alloc: Global, tokens: &'t [Token], head: Head) -> Read<'t, Module>
     ensures gives { Gives (λ x. (x.0, x.1.now)) result (body_at head.name head.parameters head.ports tokens.now) }
 {
-    let (_, rest) = mark(tokens, Mark::Semicolon)?;
-    let (items, rest) = items(alloc, rest)?;
-    let (_, rest) = word(rest, Keyword::Endmodule)?;
+    let (items, rest) = enclosed_items(alloc, tokens)?;
     let Head {
         name,
         parameters,

@@ -6,7 +6,9 @@ ghost use Rattle.v_parser.specs.Gives.{Gives};
 use crate::exprs::{expr, more_exprs};
 use crate::miss::{Miss, Read};
 use crate::targets::target;
-use crate::tokens::{mark, next_is, next_is_case, next_is_not, next_word, word};
+use crate::tokens::{
+    before, before_word, mark, next_is, next_is_case, next_is_not, next_word, word,
+};
 use lz_base::{Boxed, Items};
 use std::alloc::Global;
 use v_syntax::{
@@ -44,8 +46,7 @@ fn assigned<'t>(
         kind,
         value,
     };
-    let (_, rest) = mark(rest, Mark::Semicolon)?;
-    Ok((assign, rest))
+    before(assign, rest, Mark::Semicolon)
 }
 
 #[tactic(auto, unfolding(crate::specs::Stmts::assign_at))]
@@ -85,8 +86,7 @@ fn condition<'t>(alloc: Global, tokens: &'t [Token]) -> Read<'t, Expr>
 {
     let (_, rest) = mark(tokens, Mark::OpenParen)?;
     let (inner, rest) = expr(alloc, rest, INNER_LEVELS)?;
-    let (_, rest) = mark(rest, Mark::CloseParen)?;
-    Ok((inner, rest))
+    before(inner, rest, Mark::CloseParen)
 }
 
 #[tactic(auto, unfolding(crate::specs::Stmts::case_kind_at))]
@@ -110,8 +110,7 @@ fn items<'t>(alloc: Global, tokens: &'t [Token]) -> Read<'t, Label>
 {
     let (first, rest) = expr(alloc, tokens, INNER_LEVELS)?;
     let (items, rest) = more_exprs(alloc, rest, INNER_LEVELS, first)?;
-    let (_, rest) = mark(rest, Mark::Colon)?;
-    Ok((Label::Items(items), rest))
+    before(Label::Items(items), rest, Mark::Colon)
 }
 
 #[tactic(auto, unfolding(crate::specs::Stmts::default_at))]
@@ -172,8 +171,7 @@ fn block<'t>(alloc: Global, tokens: &'t [Token], depth: u32) -> Read<'t, Stmt>
 {
     let (_, rest) = word(tokens, Keyword::Begin)?;
     let (body, rest) = body(alloc, rest, depth)?;
-    let (_, rest) = word(rest, Keyword::End)?;
-    Ok((Stmt::Block(body), rest))
+    before_word(Stmt::Block(body), rest, Keyword::End)
 }
 
 #[cycle(statements)]
@@ -223,8 +221,7 @@ fn case_body<'t>(alloc: Global, tokens: &'t [Token], depth: u32) -> Read<'t, Ite
     ensures shorter { IfOk result (λ x. length x.1.now < length tokens.now) }
 {
     let (arms, rest) = arms_of(alloc, tokens, depth)?;
-    let (_, rest) = word(rest, Keyword::Endcase)?;
-    Ok((arms, rest))
+    before_word(arms, rest, Keyword::Endcase)
 }
 
 #[cycle(statements)]
@@ -247,13 +244,22 @@ fn case<'t>(alloc: Global, tokens: &'t [Token], depth: u32) -> Read<'t, Stmt>
 }
 
 #[cycle(statements)]
+fn boxed_stmt<'t>(alloc: Global, tokens: &'t [Token], depth: u32) -> Read<'t, Boxed<Stmt>>
+    ensures gives { Gives (λ x. (x.0, x.1.now)) result (stmt_at depth tokens.now) }
+    ensures shorter { IfOk result (λ x. length x.1.now < length tokens.now) }
+{
+    let (inner, rest) = stmt(alloc, tokens, depth)?;
+    Ok((Boxed::new(alloc, inner)?, rest))
+}
+
+#[cycle(statements)]
 #[tactic(auto, unfolding(crate::specs::Stmts::after_else_at))]
-fn after_else<'t>(alloc: Global, tokens: &'t [Token], depth: u32) -> Read<'t, Stmt>
+fn after_else<'t>(alloc: Global, tokens: &'t [Token], depth: u32) -> Read<'t, Boxed<Stmt>>
     ensures gives { Gives (λ x. (x.0, x.1.now)) result (after_else_at (stmt_at depth) tokens.now) }
     ensures shorter { IfOk result (λ x. length x.1.now < length tokens.now) }
 {
     let (_, rest) = word(tokens, Keyword::Else)?;
-    stmt(alloc, rest, depth)
+    boxed_stmt(alloc, rest, depth)
 }
 
 #[cycle(statements)]
@@ -263,7 +269,6 @@ fn else_branch<'t>(alloc: Global, tokens: &'t [Token], depth: u32, taken: Taken)
     ensures shorter { IfOk result (λ x. length x.1.now < length tokens.now) }
 {
     let (other, rest) = after_else(alloc, tokens, depth)?;
-    let other = Boxed::new(alloc, other)?;
     Ok((Stmt::IfElse(taken.condition, taken.one, other), rest))
 }
 
@@ -274,8 +279,7 @@ fn branches<'t>(alloc: Global, tokens: &'t [Token], depth: u32, condition: Expr)
     ensures gives { Gives (λ x. (x.0, x.1.now)) result (branches_at (stmt_at depth) condition tokens.now) }
     ensures shorter { IfOk result (λ x. length x.1.now < length tokens.now) }
 {
-    let (one, rest) = stmt(alloc, tokens, depth)?;
-    let one = Boxed::new(alloc, one)?;
+    let (one, rest) = boxed_stmt(alloc, tokens, depth)?;
     if next_word(rest, Keyword::Else) {
         else_branch(alloc, rest, depth, Taken { condition, one })
     } else {

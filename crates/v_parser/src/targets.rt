@@ -3,9 +3,9 @@ ghost use Rattle.v_parser.specs.Reading.{more_at};
 ghost use Rattle.v_parser.specs.Stmts.{target_part_at, target_index_at, place_at, braced_at, target_at};
 ghost use Rattle.v_parser.specs.Gives.{Gives};
 
-use crate::exprs::placed;
+use crate::exprs::{bound, opened};
 use crate::miss::{Miss, Read};
-use crate::tokens::{ident, mark, next_is};
+use crate::tokens::{before, ident, mark, next_is};
 use lz_base::Items;
 use std::alloc::Global;
 use v_syntax::{INNER_LEVELS, Ident, Mark, Placed, Range, Target, Token};
@@ -21,9 +21,7 @@ fn target_part<'t>(
     ensures gives { Gives (λ x. (x.0, x.1.now)) result (target_part_at name bracket msb tokens.now) }
     ensures shorter { IfOk result (λ x. length x.1.now < length tokens.now) }
 {
-    let (_, rest) = mark(tokens, Mark::Colon)?;
-    let (lsb, rest) = placed(alloc, rest, INNER_LEVELS)?;
-    let (_, rest) = mark(rest, Mark::CloseBracket)?;
+    let (lsb, rest) = bound(alloc, tokens, INNER_LEVELS)?;
     let range = Range { bracket, msb, lsb };
     Ok((Target::Part { name, range }, rest))
 }
@@ -33,21 +31,17 @@ fn target_index<'t>(alloc: Global, tokens: &'t [Token], name: Ident) -> Read<'t,
     ensures gives { Gives (λ x. (x.0, x.1.now)) result (target_index_at name tokens.now) }
     ensures shorter { IfOk result (λ x. length x.1.now < length tokens.now) }
 {
-    let (bracket, rest) = mark(tokens, Mark::OpenBracket)?;
-    let (first, rest) = placed(alloc, rest, INNER_LEVELS)?;
+    let (inner, rest) = opened(alloc, tokens, INNER_LEVELS)?;
+    let (bracket, first) = inner;
     if next_is(rest, Mark::Colon) {
         target_part(alloc, rest, name, bracket, first)
     } else {
-        let (_, rest) = mark(rest, Mark::CloseBracket)?;
-        let index = first.expr;
-        Ok((
-            Target::Select {
-                name,
-                bracket,
-                index,
-            },
-            rest,
-        ))
+        let select = Target::Select {
+            name,
+            bracket,
+            index: first.expr,
+        };
+        before(select, rest, Mark::CloseBracket)
     }
 }
 
@@ -97,8 +91,7 @@ fn braced<'t>(alloc: Global, tokens: &'t [Token], depth: u32) -> Read<'t, Target
     let (brace, rest) = mark(tokens, Mark::OpenBrace)?;
     let (first, rest) = target(alloc, rest, depth)?;
     let (parts, rest) = more_targets(alloc, rest, depth, first)?;
-    let (_, rest) = mark(rest, Mark::CloseBrace)?;
-    Ok((Target::Concat { brace, parts }, rest))
+    before(Target::Concat { brace, parts }, rest, Mark::CloseBrace)
 }
 
 #[cycle(targets)]

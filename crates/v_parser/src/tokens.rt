@@ -1,11 +1,11 @@
 ghost use Rattle.std.specs.Prelude.{◌≡◌, ◌==◌, not, ◌<◌, ◌≤◌, [], ◌∷◌, Ok, Err, IfOk, length};
-ghost use Rattle.v_parser.specs.Reading.{mark_code, word_code, kind, next, next_in, kind_at, mark_at, word_at, here_at, ident_at};
+ghost use Rattle.v_parser.specs.Reading.{mark_code, word_code, kind, next, next_in, kind_at, mark_at, word_at, before_at, before_word_at, here_at, ident_at};
 ghost use Rattle.v_parser.specs.Exprs.{identifiers, decimals, baseds, casts, numbers, only, decimal_at, based_at, cast_at, prefix_at, between_at, has_rank};
 ghost use Rattle.v_parser.specs.Stmts.{cases};
 ghost use Rattle.v_parser.specs.Modules.{parameter_words, port_words, goes_on};
 ghost use Rattle.v_parser.specs.Gives.{Gives};
 
-use crate::miss::Miss;
+use crate::miss::{Miss, Read};
 use crate::operators::{binary_operator, rank, unary_operator};
 use lz_base::Name;
 use std::alloc::Global;
@@ -139,6 +139,28 @@ pub(crate) fn word(tokens: &[Token], wanted: Keyword) -> Result<(u64, &[Token]),
     } else {
         Err(Miss::At(tokens))
     }
+}
+
+// A value, before this mark. The caller's own `?` then has no value to drop.
+pub(crate) fn before<'t, T: Drop>(value: T, tokens: &'t [Token], wanted: Mark) -> Read<'t, T>
+    ensures gives { Gives (λ x. (x.0, x.1.now)) result (before_at wanted value tokens.now) }
+    ensures shorter { IfOk result (λ x. length x.1.now < length tokens.now) }
+{
+    let (_, rest) = mark(tokens, wanted)?;
+    Ok((value, rest))
+}
+
+// A value, before this word.
+pub(crate) fn before_word<'t, T: Drop>(
+    value: T,
+    tokens: &'t [Token],
+    wanted: Keyword,
+) -> Read<'t, T>
+    ensures gives { Gives (λ x. (x.0, x.1.now)) result (before_word_at wanted value tokens.now) }
+    ensures shorter { IfOk result (λ x. length x.1.now < length tokens.now) }
+{
+    let (_, rest) = word(tokens, wanted)?;
+    Ok((value, rest))
 }
 
 // The place of the next token.

@@ -241,3 +241,7 @@ sound_items m h =
     let names : List Entry = names_of m in
     each_sound names (module_item_marks names) (is_sound_item names) (sound_module_item names) m.items
     (kept_right names (flat_map (parameter_marks names) m.parameters ++ flat_map (port_marks names) m.ports) (flat_map (module_item_marks names) m.items) (module_kept m h))
+
+-- over names that are those of the module
+pub sound_over : (m : Module) (names : List Entry) → names ≡ names_of m → first_fault (places_of m) typing_rules ≡ None → are_sound_items names m.items ≡ true
+sound_over m names declared h = subst (λ (l : List Entry). are_sound_items l m.items ≡ true) (sym declared) (sound_items m h)

@@ -3,7 +3,8 @@
 //! It stands on `v_elaborate`, which judges the rules of declarations and expressions, on `v_typing`, `v_sites` and
 //! `v_statements`, which type expressions, sites and statements, and on `v_meaning` and `v_core` for the definitions of what
 //! a module and its typed form mean. Promised is: `elaborate` answers the first of these rules that a module breaks, at its
-//! least place, and otherwise the typed form, whose design is that of the module.
+//! least place, and otherwise the typed form, whose design is that of the module; `typed` answers such a form over
+//! the declared names of a module that breaks none.
 #![tactic(auto)]
 
 mod assigns;
@@ -12,4 +13,4 @@ mod elaborating;
 mod parts;
 mod ports;
 
-pub use elaborating::elaborate;
+pub use elaborating::{elaborate, kept_is_sound, typed};

@@ -1,10 +1,6 @@
 use Rattle.std.proofs.Common.{◌≡◌, ◌+◌, drop}
-use Rattle.lz_circuit.specs.Lines.{port_bits}
 use Rattle.n_cells.specs.Netlist.{cell_nets, net_count}
 use Rattle.n_sim.proofs.room.count_nets.Given as goal
-
-abbrev pub invariant-loop-port : goal.invariant-loop-port
-invariant-loop-port l = l.count + port_bits (drop l.port-index l.port-items) ≡ 2 + port_bits l.port-items
 
 abbrev pub invariant-loop-i : goal.invariant-loop-i
 invariant-loop-i l = l.count + cell_nets (drop l.i l.netlist.cells) ≡ net_count l.netlist

@@ -1,12 +1,12 @@
 use Rattle.std.proofs.Common.{◌≡◌, ℕ, List}
 use Rattle.lz_base.specs.Limits.{source_limit}
 use Rattle.s_cli.specs.Synthesis.{IsTranslation}
-use Rattle.s_cli.proofs.Judged.{OneReading, front_refused, judged_done}
+use Rattle.s_cli.proofs.Judged.{OneReading, small_refused, judged_done}
 use Rattle.s_cli.proofs.synthesis.translated.Goals as goal
 
 pub returns-in-Err : goal.returns-in-Err
 returns-in-Err c =
-    front_refused (record { tokens = c.one_reading.ensures.tokens; place = c.one_reading.ensures.place; apart = c.one_reading.ensures.apart; modules = c.one_module.ensures }) c.args.source.now c.in-Err.stop c.requires c.in-Err.ensures
+    small_refused (record { tokens = c.one_reading.ensures.tokens; place = c.one_reading.ensures.place; apart = c.one_reading.ensures.apart; modules = c.one_module.ensures }) c.args.source.now c.in-Err.stop c.requires c.in-Err.ensures
 
 pub returns : goal.returns
 returns c =

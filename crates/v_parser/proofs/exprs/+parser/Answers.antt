@@ -1,21 +1,17 @@
 use Rattle.std.proofs.Common.{◌≡◌, sym, ◌∙◌, ◌-◌, ◌+◌, ◌<◌, length, refl, arith}
 use Rattle.std.proofs.lemmas.Result.{err_from_is_err_and}
+use Rattle.v_syntax.specs.declared.token.Mark.TheVariants as m
+use Rattle.v_parser.specs.Reading.{is_comma, behind_at}
 use Rattle.v_parser.specs.Exprs.{expr_at, binary_at, operand_at}
-use Rattle.v_parser.proofs.Loop.{more_miss_in, more_err_in, links_miss_in, links_err_in, links_step}
+use Rattle.v_parser.proofs.Loop.{repeated_err_in, links_miss_in, links_err_in, links_step}
 use Rattle.v_parser.proofs.Depth.{binary_fails, binary_first_fails}
 use Rattle.v_parser.proofs.exprs.+parser.Goals as goal
-
-pub more_exprs-returns-in_err-rest-clause-gives : goal.more_exprs-returns-in_err-rest-clause-gives
-more_exprs-returns-in_err-rest-clause-gives t c =
-    let p = err_from_is_err_and c.from_residual-in_err-rest.result c.from_residual-in_err-rest.ensures.1 in
-    rw (p.1, p.2) (more_miss_in (expr_at c.args.depth) c.loop-alloc.parts c.loop-alloc.left.now _ c.in_err-rest.field-0.0
-    (sym c.next_is.ensures ∙ c.loop-alloc-test.true) c.in_err-rest.ensures.gives c.loop-alloc.invariant.same)
 
 pub more_exprs-returns-in_err-part-clause-gives : goal.more_exprs-returns-in_err-part-clause-gives
 more_exprs-returns-in_err-part-clause-gives t c =
     let p = err_from_is_err_and c.from_residual-in_err-part.result c.from_residual-in_err-part.ensures.1 in
-    rw (p.1, p.2) (more_err_in (expr_at c.args.depth) c.loop-alloc.parts c.loop-alloc.left.now _ _ _ c.in_err-part.field-0.0
-    (sym c.next_is.ensures ∙ c.loop-alloc-test.true) c.in_ok-rest.ensures.gives c.in_err-part.ensures.gives c.loop-alloc.invariant.same)
+    rw (p.1, p.2) (repeated_err_in is_comma (behind_at m.Comma (expr_at c.args.depth)) c.loop-alloc.parts c.loop-alloc.left.now _ c.in_err-part.field-0.0
+    (sym c.next_is.ensures ∙ c.loop-alloc-test.true) c.in_err-part.ensures.gives c.loop-alloc.invariant.same)
 
 pub links-returns-in_err-op-clause-gives : goal.links-returns-in_err-op-clause-gives
 links-returns-in_err-op-clause-gives t c =

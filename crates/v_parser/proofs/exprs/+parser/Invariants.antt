@@ -6,6 +6,15 @@ use Rattle.v_parser.proofs.exprs.+parser.Given as goal
 abbrev pub decreases-placed : goal.decreases-placed
 decreases-placed l = 100 * l.depth + 50
 
+abbrev pub decreases-behind : goal.decreases-behind
+decreases-behind l = 100 * l.depth + 32
+
+abbrev pub decreases-opened : goal.decreases-opened
+decreases-opened l = 100 * l.depth + 55
+
+abbrev pub decreases-bound : goal.decreases-bound
+decreases-bound l = 100 * l.depth + 55
+
 abbrev pub decreases-index : goal.decreases-index
 decreases-index l = 100 * l.depth + 70
 
@@ -34,7 +43,7 @@ abbrev pub decreases-braces : goal.decreases-braces
 decreases-braces l = 100 * l.depth + 80
 
 abbrev pub decreases-signed : goal.decreases-signed
-decreases-signed l = 100 * l.depth + 80
+decreases-signed l = 100 * l.depth + 85
 
 abbrev pub decreases-prefixed : goal.decreases-prefixed
 decreases-prefixed l = 100 * l.depth + 80

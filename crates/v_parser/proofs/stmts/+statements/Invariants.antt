@@ -6,6 +6,9 @@ use Rattle.v_parser.proofs.stmts.+statements.Given as goal
 abbrev pub decreases-stmt : goal.decreases-stmt
 decreases-stmt l = 10 * l.depth
 
+abbrev pub decreases-boxed_stmt : goal.decreases-boxed_stmt
+decreases-boxed_stmt l = 10 * l.depth + 1
+
 abbrev pub decreases-body : goal.decreases-body
 decreases-body l = 10 * l.depth + 7
 

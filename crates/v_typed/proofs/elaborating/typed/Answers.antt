@@ -2,8 +2,15 @@ use Rattle.std.proofs.Common.{rules, ◌∙◌, ap, map, flat_map}
 use Rattle.v_core.specs.declared.modules.TypedSite.{TypedSite}
 use Rattle.v_meaning.specs.Names.{entry_of}
 use Rattle.v_meaning.specs.Modules.{output_names, item_assigns, item_combinational, item_clocked}
+use Rattle.v_typed.proofs.SoundItems.{sound_over}
 use Rattle.v_typed.proofs.TypedDesigns.{design_is}
 use Rattle.v_typed.proofs.elaborating.typed.Goals as goal
+
+pub sites-requires : goal.sites-requires
+sites-requires c = record { sound = sound_over c.args.module.now c.args.names.now c.requires.declared c.requires.kept }
+
+pub parts_of-requires : goal.parts_of-requires
+parts_of-requires c = record { sound = rw c.as_slice-2.ensures (sound_over c.args.module.now c.args.names.now c.requires.declared c.requires.kept) }
 
 pub returns-clause-design : goal.returns-clause-design
 returns-clause-design c =

@@ -1,0 +1,4 @@
+pub mod Cells
+pub mod Cursor
+pub mod Parts
+pub mod Views

@@ -1,0 +1,137 @@
+use crate::cover::Cover;
+use crate::cut::Cut;
+use crate::graph::{Node, is_gate};
+use lz_base::OutOfMemory;
+use std::alloc::Global;
+
+/// A walk over the tables that come to be needed, or are no longer needed, where a cut is taken or given up, with what it
+/// takes to undo it.
+#[derive(Drop)]
+pub struct Trail {
+    ahead: Vec<u32>,
+    touched: Vec<u32>,
+}
+
+/// How many tables a walk met, and whether it came to its end.
+#[derive(Clone, Copy)]
+pub struct Walk {
+    pub tables: u32,
+    pub complete: bool,
+}
+
+impl Trail {
+    /// No walk.
+    pub fn new(alloc: Global) -> Trail {
+        Trail {
+            ahead: Vec::new(alloc),
+            touched: Vec::new(alloc),
+        }
+    }
+
+    // Goes on with the leaves of a cut.
+    fn push_leaves(&mut self, cut: &Cut) -> Result<(), OutOfMemory> {
+        for leaf in cut.leaves.iter().take(cut.cost.leaves as usize) {
+            self.ahead.push(*leaf)?;
+        }
+        Ok(())
+    }
+
+    // Begins at a cut.
+    fn begin(&mut self, cut: &Cut) -> Result<(), OutOfMemory> {
+        self.ahead.clear();
+        self.touched.clear();
+        self.push_leaves(cut)
+    }
+
+    // Reads a node. Where it is a gate that nobody has read, it goes on with its leaves.
+    fn take_node(
+        &mut self,
+        nodes: &[Node],
+        cover: &mut Cover,
+        number: u32,
+    ) -> Result<bool, OutOfMemory> {
+        self.touched.push(number)?;
+        let before = cover.take(number);
+        let new = before == 0 && is_gate(nodes, number);
+        if new {
+            self.push_leaves(&cover.chosen(number))?;
+        }
+        Ok(new)
+    }
+
+    // Reads a node no longer. Where it is a gate that nobody else reads, it goes on with its leaves.
+    fn give_node(
+        &mut self,
+        nodes: &[Node],
+        cover: &mut Cover,
+        number: u32,
+    ) -> Result<bool, OutOfMemory> {
+        self.touched.push(number)?;
+        let before = cover.give(number);
+        let last = before == 1 && is_gate(nodes, number);
+        if last {
+            self.push_leaves(&cover.chosen(number))?;
+        }
+        Ok(last)
+    }
+
+    /// Reads the leaves of a cut, and those of each gate that comes to be needed, in at most so many steps.
+    pub fn take(
+        &mut self,
+        nodes: &[Node],
+        cover: &mut Cover,
+        cut: &Cut,
+        steps: u32,
+    ) -> Result<Walk, OutOfMemory> {
+        self.begin(cut)?;
+        let mut tables = 0u32;
+        for _step in 0..steps {
+            match self.ahead.pop() {
+                Some(number) => {
+                    let new = self.take_node(nodes, cover, number)?;
+                    tables = tables.saturating_add(new as u32);
+                }
+                None => break,
+            }
+        }
+        let complete = self.ahead.is_empty();
+        Ok(Walk { tables, complete })
+    }
+
+    /// Reads the leaves of a cut no longer, nor those of each gate that is no longer needed, in at most so many steps.
+    pub fn give(
+        &mut self,
+        nodes: &[Node],
+        cover: &mut Cover,
+        cut: &Cut,
+        steps: u32,
+    ) -> Result<Walk, OutOfMemory> {
+        self.begin(cut)?;
+        let mut tables = 0u32;
+        for _step in 0..steps {
+            match self.ahead.pop() {
+                Some(number) => {
+                    let last = self.give_node(nodes, cover, number)?;
+                    tables = tables.saturating_add(last as u32);
+                }
+                None => break,
+            }
+        }
+        let complete = self.ahead.is_empty();
+        Ok(Walk { tables, complete })
+    }
+
+    /// Undoes what `take` did.
+    pub fn undo_take(&self, cover: &mut Cover) {
+        for number in &self.touched {
+            cover.give(*number);
+        }
+    }
+
+    /// Undoes what `give` did.
+    pub fn undo_give(&self, cover: &mut Cover) {
+        for number in &self.touched {
+            cover.take(*number);
+        }
+    }
+}

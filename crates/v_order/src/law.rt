@@ -1,0 +1,27 @@
+ghost use Rattle.std.specs.Prelude.{◌≡◌, [], ℕ, List, Bool};
+ghost use Rattle.v_syntax.specs.declared.expr.Expr.{Expr};
+ghost use Rattle.v_syntax.specs.declared.stmt.Stmt.{Stmt};
+ghost use Rattle.v_meaning.specs.declared.names.Entry.{Entry};
+ghost use Rattle.v_meaning.specs.Views.{View};
+ghost use Rattle.v_meaning.specs.Senses.{assigned};
+ghost use Rattle.v_meaning.specs.Expressions.{sense_of};
+ghost use Rattle.v_meaning.specs.Statements.{acts_of};
+ghost use Rattle.v_meaning.specs.Designs.{Design, IsSettled};
+ghost use Rattle.v_order.specs.Reads.{nets_read, nets_read_by};
+ghost use Rattle.v_order.specs.Settling.{ActsLookOnlyAt, LooksOnlyAt, Settles, settled_by, with_nets};
+
+/// Law: of all nets the value of an expression looks only at those that it reads, at every width and sign; and so do the
+/// acts of a statement.
+pub fn reads_decide()
+    ensures value { (names : List Entry) (sites : List ℕ) (x : Expr) (width : ℕ) (signed : Bool) → LooksOnlyAt (nets_read names x) ((sense_of names sites x).at width signed) }
+    ensures assigned { (names : List Entry) (sites : List ℕ) (x : Expr) (width : ℕ) → LooksOnlyAt (nets_read names x) (assigned width (sense_of names sites x)) }
+    ensures acts { (names : List Entry) (sites : List ℕ) (x : Stmt) → ActsLookOnlyAt (nets_read_by names x) (acts_of names sites x) }
+{}
+
+/// Law: the nets of a design without combinational processes settle in one way, where there is an order in which they do:
+/// the nets that are computed in the order have settled, and any that have settled over the same inputs, store and sites
+/// are these (IEEE Std 1364-2005, 6.1.2).
+pub fn nets_settle_in_one_way()
+    ensures settled { (d : Design) (order : List ℕ) (v : View) → d.combinational ≡ [] → Settles d order → IsSettled d (with_nets v (settled_by d order v)) }
+    ensures alone { (d : Design) (order : List ℕ) (v : View) (nets : List ℕ) → Settles d order → IsSettled d (with_nets v nets) → nets ≡ settled_by d order v }
+{}

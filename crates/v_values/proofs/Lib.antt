@@ -1,0 +1,11 @@
+pub mod Tests
+pub mod Links
+pub mod Depths
+pub mod TypedLaws
+pub mod Chains
+pub mod Parts
+pub mod Changes
+pub mod Writes
+pub mod TargetLaws
+pub mod TargetTurns
+pub mod TargetFits

@@ -1,0 +1,26 @@
+use Rattle.std.proofs.Common.{◌≡◌, ◌<◌, ◌++◌, ap, sym, subst, ◌∙◌, ℕ, List, true}
+use Rattle.std.specs.Prelude.{◌^◌}
+use Rattle.v_meaning.specs.Views.{Write}
+use Rattle.v_core.specs.Statements.{target_in}
+use Rattle.v_values.specs.Writes.{all_fit, writes_in}
+use Rattle.v_values.proofs.TargetLaws.{cut_writes}
+use Rattle.v_values.proofs.assigning.defer.Goals as goal
+
+pub target_width-width-requires : goal.target_width-width-requires
+target_width-width-requires c = record { kept = (c.args.names.now, c.args.now.now.shape.sites, c.requires.kept) }
+
+pub enqueue-requires : goal.enqueue-requires
+enqueue-requires c = record {
+  kept = c.requires.kept;
+  fits = c.requires.fits;
+  below = subst (λ (w : ℕ). c.cut-bits.result < 2 ^ w) (c.target_width-width.ensures.width c.args.names.now) c.cut-bits.ensures.below;
+}
+
+pub returns : goal.returns
+returns c =
+    let same = cut_writes (target_in c.args.target.now c.args.names.now) c.target_width-width.result c.args.value c.cut-bits.result c.args.now.now.view
+    (c.target_width-width.ensures.width c.args.names.now) c.cut-bits.ensures.value in
+    record {
+      writes = c.in_ok-enqueue.ensures.writes ∙ ap (λ (ws : List Write). writes_in c.args.queue.now.items ++ ws) same;
+      fit = sym (ap (all_fit c.args.now.now.shape) same) ∙ c.in_ok-enqueue.ensures.fit;
+    }

@@ -1,0 +1,54 @@
+ghost use Rattle.std.specs.Prelude.{◌≡◌, ◌≤◌, ◌<◌, ◌+◌, ◌^◌, slice_index};
+ghost use Rattle.v_meaning.specs.Views.{changed_at, with_bits};
+
+use std::marker::Model;
+use v_words::with_part;
+
+/// A memory (IEEE Std 1364-2005, 4.9): how many bits each of its words has, and the words by ascending address.
+#[derive(Debug, Drop)]
+pub struct Memory {
+    pub width: u32,
+    pub words: Vec<u128>,
+}
+
+impl Model for Memory {
+    ghost use Rattle.std.specs.Prelude.{◌≤◌};
+    ghost use Rattle.v_values.specs.Moments.{MemoryValue};
+
+    ghost Value = { MemoryValue };
+
+    ghost use Rattle.v_values.specs.Seen.{AreBelow};
+
+    ghost view = { λ m. record { width = m.width; words = m.words.items } };
+
+    ghost invariant = { λ m. (m.width ≤ 128) × AreBelow m.width m.words.items };
+}
+
+impl Memory {
+    /// The word of a number, from 0 at the lowest address; 0 where there are not so many.
+    pub fn word(&self, number: u128) -> u128
+        ensures value { result ≡ slice_index self.now.words number }
+        ensures below { result < 2 ^ self.now.width }
+    {
+        if number < self.words.len() as u128 {
+            self.words[number as usize]
+        } else {
+            0
+        }
+    }
+
+    // Other bits in the word of a number, from the number of the lowest one up; nothing where there are not so many words.
+    #[tactic(auto, using(crate::proofs::Changes::change_set, crate::proofs::Changes::change_out, crate::proofs::Changes::set_below))]
+    pub(crate) fn write(&mut self, number: u32, low: u32, width: u32, value: u128)
+        requires has_bit { 1 ≤ width }
+        requires within { low + width ≤ self.old.width }
+        requires fits { value < 2 ^ width }
+        ensures words { self.new.words ≡ changed_at (with_bits low width value) self.old.words number }
+        ensures width { self.new.width ≡ self.old.width }
+    {
+        let at = number as usize;
+        if at < self.words.len() {
+            self.words[at] = with_part(low, width, value, self.words[at]);
+        }
+    }
+}

@@ -1,0 +1,113 @@
+ghost use Rattle.std.specs.Prelude.{◌≡◌, ◌<◌, ◌^◌, [], ◌∷◌, slice_index, true};
+ghost use Rattle.v_meaning.specs.Names.{word_of, words_of};
+ghost use Rattle.v_meaning.specs.Views.{applied};
+ghost use Rattle.v_values.specs.Writes.{write_fits, write_in};
+ghost use Rattle.v_values.specs.Moments.{has_width};
+ghost use Rattle.v_values.specs.Seen.{values_of, widths_of};
+
+use crate::memory::Memory;
+use crate::writing::{Place, Write, put};
+use lz_base::Word;
+use std::marker::Model;
+use v_meaning::Kind;
+
+/// What the names and the sites of a module hold at a moment of a cycle: the words of inputs, nets, variables and
+/// memories, and of the sites.
+#[derive(Debug, Drop)]
+pub struct Moment {
+    pub inputs: Vec<Word>,
+    pub nets: Vec<Word>,
+    pub variables: Vec<Word>,
+    pub memories: Vec<Memory>,
+    pub sites: Vec<Word>,
+}
+
+impl Model for Moment {
+    ghost use Rattle.v_values.specs.Moments.{MomentValue};
+    ghost use Rattle.v_values.specs.Seen.{values_of, widths_of, all_words, all_widths};
+
+    ghost Value = { MomentValue };
+
+    ghost view = { λ m. record { view = record { inputs = values_of m.inputs.items; nets = values_of m.nets.items; store = record { variables = values_of m.variables.items; memories = all_words m.memories.items }; sites = values_of m.sites.items }; shape = record { inputs = widths_of m.inputs.items; nets = widths_of m.nets.items; variables = widths_of m.variables.items; memories = all_widths m.memories.items; sites = widths_of m.sites.items } } };
+}
+
+// The word of a number; 0 where there are not so many.
+fn at(words: &[Word], number: u32) -> u128
+    ensures value { result ≡ slice_index (values_of words.now) number }
+    ensures below { result < 2 ^ slice_index (widths_of words.now) number }
+{
+    if (number as usize) < words.len() {
+        let word = &words[number as usize];
+        word.value
+    } else {
+        0
+    }
+}
+
+impl Moment {
+    /// The word of a name that has so many bits.
+    pub fn word(&self, kind: Kind, width: u32) -> u128
+        requires fits { has_width self.now.shape kind width ≡ true }
+        ensures value { result ≡ word_of kind self.now.view }
+        ensures below { result < 2 ^ width }
+    {
+        match kind {
+            Kind::Parameter(value) => value,
+            Kind::Clock => 0,
+            Kind::Input(k) => at(&self.inputs, k),
+            Kind::Net(k) => at(&self.nets, k),
+            Kind::Combinational(k) => at(&self.nets, k),
+            Kind::Variable(k) => at(&self.variables, k),
+            Kind::Memory(_, _, _) => 0,
+        }
+    }
+
+    /// The word of a memory, by its number from 0 at the lowest address.
+    pub fn memory_word(&self, memory: u32, number: u128) -> u128
+        ensures value { result ≡ slice_index (words_of memory self.now.view) number }
+        ensures below { result < 2 ^ slice_index self.now.shape.memories memory }
+    {
+        if (memory as usize) < self.memories.len() {
+            self.memories[memory as usize].word(number)
+        } else {
+            0
+        }
+    }
+
+    /// The bits of a site.
+    pub fn site(&self, number: u32) -> u128
+        ensures value { result ≡ slice_index self.now.view.sites number }
+        ensures below { result < 2 ^ slice_index self.now.shape.sites number }
+    {
+        at(&self.sites, number)
+    }
+
+    /// One write.
+    pub fn write(&mut self, write: Write)
+        requires fits { write_fits self.old.shape (write_in write) ≡ true }
+        ensures view { self.new.view ≡ applied self.old.view (write_in write ∷ []) }
+        ensures shape { self.new.shape ≡ self.old.shape }
+    {
+        match write.place {
+            Place::Net(k) => put(
+                self.nets.as_mut_slice(),
+                k,
+                write.low,
+                write.width,
+                write.value,
+            ),
+            Place::Variable(k) => put(
+                self.variables.as_mut_slice(),
+                k,
+                write.low,
+                write.width,
+                write.value,
+            ),
+            Place::Word(k, i) => {
+                if (k as usize) < self.memories.len() {
+                    self.memories[k as usize].write(i, write.low, write.width, write.value);
+                }
+            }
+        }
+    }
+}

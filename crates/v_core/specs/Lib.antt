@@ -5,3 +5,4 @@ pub mod Cores
 pub mod Formed
 pub mod OpenForms
 pub mod Sited
+pub mod FormedCores

@@ -5,3 +5,4 @@ pub mod Sited
 pub mod Chains
 pub mod Writes
 pub mod Kept
+pub mod Queues

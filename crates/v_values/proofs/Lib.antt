@@ -9,3 +9,5 @@ pub mod Writes
 pub mod TargetLaws
 pub mod TargetTurns
 pub mod TargetFits
+pub mod Counts
+pub mod Waiting

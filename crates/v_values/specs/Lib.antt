@@ -3,3 +3,4 @@ pub mod Seen
 pub mod Chains
 pub mod Writes
 pub mod Kept
+pub mod Queues

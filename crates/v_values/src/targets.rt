@@ -1,4 +1,4 @@
-ghost use Rattle.std.specs.Prelude.{◌≡◌, ◌≤◌, ◌<◌, ◌^◌, ◌++◌, ℕ, List, true, OnOk};
+ghost use Rattle.std.specs.Prelude.{◌≡◌, ◌≤◌, ◌<◌, ◌+◌, ◌^◌, ◌++◌, ℕ, List, length, true};
 ghost use Rattle.std.specs.List.{list_all};
 ghost use Rattle.v_meaning.specs.Targets.{TargetSense, parts_width, parts_writes, place_of, selected_target, write_bits};
 ghost use Rattle.v_meaning.specs.Views.{View, applied};
@@ -8,13 +8,15 @@ ghost use Rattle.v_core.specs.Formed.{is_width};
 ghost use Rattle.v_core.specs.Statements.{target_in};
 ghost use Rattle.v_values.specs.Kept.{is_kept_target, senses_in};
 ghost use Rattle.v_values.specs.Moments.{Shape, fit};
-ghost use Rattle.v_values.specs.Writes.{all_fit, place_or, writes_in};
+ghost use Rattle.v_values.specs.Queues.{all_parts, target_parts};
+ghost use Rattle.v_values.specs.Writes.{all_fit, place_or};
 
 use crate::moment::Moment;
+use crate::queue::Queue;
 use crate::reading::{Known, index_in, look_up, within};
 use crate::valuing::value;
 use crate::writing::{Place, Write};
-use lz_base::{OutOfMemory, cut};
+use lz_base::cut;
 use v_core::TypedTarget;
 use v_meaning::{Entry, Kind};
 
@@ -57,66 +59,55 @@ fn place_of(kind: Kind) -> Option<Place>
 }
 
 // Puts a write of these bits of a place behind a queue; nothing where there is no such place.
-fn push_bits(
-    queue: &mut Vec<Write>,
-    place: Option<Place>,
-    low: u32,
-    width: u32,
-    value: u128,
-) -> Result<(), OutOfMemory>
-    ensures { OnOk result (writes_in queue.new.items ≡ writes_in queue.old.items ++ write_bits (place_or place) low width value) }
+fn push_bits(queue: &mut Queue, place: Option<Place>, low: u32, width: u32, value: u128)
+    requires room { length queue.old.writes < queue.old.room }
+    ensures writes { queue.new.writes ≡ queue.old.writes ++ write_bits (place_or place) low width value }
+    ensures few { length queue.new.writes ≤ length queue.old.writes + 1 }
+    ensures room { queue.new.room ≡ queue.old.room }
 {
-    match place {
-        Some(place) => {
-            queue.push(Write {
-                place,
-                low,
-                width,
-                value,
-            })?;
-            Ok(())
-        }
-        None => Ok(()),
+    if let Some(place) = place {
+        queue.push(Write {
+            place,
+            low,
+            width,
+            value,
+        });
     }
 }
 
 // Puts the write of a bit of a variable or a word of a memory behind a queue; nothing where the index is out of range (5.2.1
 // and 5.2.2).
-fn push_selected(
-    queue: &mut Vec<Write>,
-    known: Known,
-    index: Option<u128>,
-    value: u128,
-) -> Result<(), OutOfMemory>
-    ensures { OnOk result ((e : Entry) (v : View) → e.width ≡ known.width → e.low ≡ known.low → writes_in queue.new.items ≡ writes_in queue.old.items ++ (selected_target known.kind e (λ v. index)).writes v value) }
+fn push_selected(queue: &mut Queue, known: Known, index: Option<u128>, value: u128)
+    requires room { length queue.old.writes < queue.old.room }
+    ensures writes { (e : Entry) (v : View) → e.width ≡ known.width → e.low ≡ known.low → queue.new.writes ≡ queue.old.writes ++ (selected_target known.kind e (λ v. index)).writes v value }
+    ensures few { length queue.new.writes ≤ length queue.old.writes + 1 }
+    ensures room { queue.new.room ≡ queue.old.room }
 {
     match known.kind {
-        Kind::Memory(k, low, count) => match within(low, count, index) {
-            Some(i) => push_bits(queue, Some(Place::Word(k, i as u32)), 0, known.width, value),
-            None => Ok(()),
-        },
-        kind => match within(known.low, known.width, index) {
-            Some(i) => push_bits(queue, place_of(kind), i as u32, 1, value),
-            None => Ok(()),
-        },
+        Kind::Memory(k, low, count) => {
+            if let Some(i) = within(low, count, index) {
+                push_bits(queue, Some(Place::Word(k, i as u32)), 0, known.width, value);
+            }
+        }
+        kind => {
+            if let Some(i) = within(known.low, known.width, index) {
+                push_bits(queue, place_of(kind), i as u32, 1, value);
+            }
+        }
     }
 }
 
-/// Puts the writes of a value of as many bits as the target has behind a queue (9.2.2). `OutOfMemory` is the only other
-/// answer; then the queue may have some of them.
+/// Puts the writes of a value of as many bits as the target has behind a queue (9.2.2).
 #[cycle(queueing)]
-pub fn enqueue(
-    target: &TypedTarget,
-    bits: u128,
-    names: &[Entry],
-    now: &Moment,
-    queue: &mut Vec<Write>,
-) -> Result<(), OutOfMemory>
+pub(crate) fn enqueue(target: &TypedTarget, bits: u128, names: &[Entry], now: &Moment, queue: &mut Queue)
     requires kept { is_kept_target target.now names.now now.now.shape.sites ≡ true }
     requires fits { fit now.now.shape names.now ≡ true }
     requires below { bits < 2 ^ (target_in target.now names.now).width }
-    ensures writes { OnOk result (writes_in queue.new.items ≡ writes_in queue.old.items ++ (target_in target.now names.now).writes now.now.view bits) }
-    ensures fit { OnOk result (all_fit now.now.shape ((target_in target.now names.now).writes now.now.view bits) ≡ true) }
+    requires room { length queue.old.writes + target_parts target.now ≤ queue.old.room }
+    ensures writes { queue.new.writes ≡ queue.old.writes ++ (target_in target.now names.now).writes now.now.view bits }
+    ensures fit { all_fit now.now.shape ((target_in target.now names.now).writes now.now.view bits) ≡ true }
+    ensures few { length queue.new.writes ≤ length queue.old.writes + target_parts target.now }
+    ensures room { queue.new.room ≡ queue.old.room }
 {
     match target {
         TypedTarget::Part {
@@ -126,8 +117,7 @@ pub fn enqueue(
             ..
         } => {
             let place = place_of(look_up(names, *name).kind);
-            push_bits(queue, place, *low, *width, bits)?;
-            Ok(())
+            push_bits(queue, place, *low, *width, bits);
         }
         TypedTarget::Select {
             name,
@@ -138,13 +128,11 @@ pub fn enqueue(
         } => {
             let index = value(index, names, now);
             let index = index_in(*width, *signed, index);
-            push_selected(queue, look_up(names, *name), index, bits)?;
-            Ok(())
+            push_selected(queue, look_up(names, *name), index, bits);
         }
         TypedTarget::Concat(parts) => {
             let width = target_width(target);
-            enqueue_parts(parts.as_slice(), width, bits, names, now, queue)?;
-            Ok(())
+            enqueue_parts(parts.as_slice(), width, bits, names, now, queue);
         }
     }
 }
@@ -157,23 +145,25 @@ fn enqueue_parts(
     bits: u128,
     names: &[Entry],
     now: &Moment,
-    queue: &mut Vec<Write>,
-) -> Result<(), OutOfMemory>
+    queue: &mut Queue,
+)
     requires kept { list_all (λ (t : TypedTarget). is_kept_target t names.now now.now.shape.sites) parts.now ≡ true }
     requires fits { fit now.now.shape names.now ≡ true }
     requires width { width ≡ parts_width (senses_in names.now parts.now) }
     requires narrow { width ≤ 128 }
     requires below { bits < 2 ^ width }
-    ensures writes { OnOk result (writes_in queue.new.items ≡ writes_in queue.old.items ++ parts_writes (senses_in names.now parts.now) now.now.view bits) }
-    ensures fit { OnOk result (all_fit now.now.shape (parts_writes (senses_in names.now parts.now) now.now.view bits) ≡ true) }
+    requires room { length queue.old.writes + all_parts parts.now ≤ queue.old.room }
+    ensures writes { queue.new.writes ≡ queue.old.writes ++ parts_writes (senses_in names.now parts.now) now.now.view bits }
+    ensures fit { all_fit now.now.shape (parts_writes (senses_in names.now parts.now) now.now.view bits) ≡ true }
+    ensures few { length queue.new.writes ≤ length queue.old.writes + all_parts parts.now }
+    ensures room { queue.new.room ≡ queue.old.room }
 {
     let mut behind = width;
     let mut left = bits;
     for part in parts {
         let width = target_width(part);
         behind -= width;
-        enqueue(part, left >> behind, names, now, queue)?;
+        enqueue(part, left >> behind, names, now, queue);
         left = cut(left, behind);
     }
-    Ok(())
 }

@@ -41,7 +41,7 @@ pub fn put(words: &mut [Word], number: u32, low: u32, width: u32, value: u128)
     }
 }
 
-/// Writes one after another (IEEE Std 1364-2005, 9.2).
+// Writes one after another (IEEE Std 1364-2005, 9.2).
 pub fn apply(now: &mut Moment, writes: &[Write])
     requires fit { all_fit now.old.shape (writes_in writes.now) ≡ true }
     ensures view { now.new.view ≡ applied now.old.view (writes_in writes.now) }

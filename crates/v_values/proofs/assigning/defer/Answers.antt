@@ -1,8 +1,8 @@
-use Rattle.std.proofs.Common.{◌≡◌, ◌<◌, ◌++◌, ap, sym, subst, ◌∙◌, ℕ, List, true}
+use Rattle.std.proofs.Common.{◌<◌, ◌++◌, ap, sym, subst, ◌∙◌, ℕ, List}
 use Rattle.std.specs.Prelude.{◌^◌}
 use Rattle.v_meaning.specs.Views.{Write}
 use Rattle.v_core.specs.Statements.{target_in}
-use Rattle.v_values.specs.Writes.{all_fit, writes_in}
+use Rattle.v_values.specs.Writes.{all_fit}
 use Rattle.v_values.proofs.TargetLaws.{cut_writes}
 use Rattle.v_values.proofs.assigning.defer.Goals as goal
 
@@ -14,6 +14,7 @@ enqueue-requires c = record {
   kept = c.requires.kept;
   fits = c.requires.fits;
   below = subst (λ (w : ℕ). c.cut-bits.result < 2 ^ w) (c.target_width-width.ensures.width c.args.names.now) c.cut-bits.ensures.below;
+  room = c.requires.room;
 }
 
 pub returns : goal.returns
@@ -21,6 +22,8 @@ returns c =
     let same = cut_writes (target_in c.args.target.now c.args.names.now) c.target_width-width.result c.args.value c.cut-bits.result c.args.now.now.view
     (c.target_width-width.ensures.width c.args.names.now) c.cut-bits.ensures.value in
     record {
-      writes = c.in_ok-enqueue.ensures.writes ∙ ap (λ (ws : List Write). writes_in c.args.queue.now.items ++ ws) same;
-      fit = sym (ap (all_fit c.args.now.now.shape) same) ∙ c.in_ok-enqueue.ensures.fit;
+      writes = c.enqueue.ensures.writes ∙ ap (λ (ws : List Write). c.args.queue.now.writes ++ ws) same;
+      fit = sym (ap (all_fit c.args.now.now.shape) same) ∙ c.enqueue.ensures.fit;
+      few = c.enqueue.ensures.few;
+      room = c.enqueue.ensures.room;
     }

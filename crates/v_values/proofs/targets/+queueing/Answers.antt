@@ -9,9 +9,11 @@ use Rattle.v_core.specs.Formed.{is_width}
 use Rattle.v_core.specs.Values.{entry_at, index_in}
 use Rattle.v_values.specs.Kept.{is_kept_target}
 use Rattle.v_values.specs.Moments.{has_width}
-use Rattle.v_values.specs.Writes.{all_fit, writes_in}
+use Rattle.v_values.specs.Writes.{all_fit}
 use Rattle.v_values.proofs.Tests.{has_bit, within}
 use Rattle.v_values.proofs.Chains.{next_is, one_of}
+use Rattle.v_values.specs.Queues.{all_parts}
+use Rattle.v_values.proofs.Counts.{concat_count}
 use Rattle.v_values.proofs.TargetLaws.{parts_deeper, concat_target, select_keeps, concat_keeps}
 use Rattle.v_values.proofs.TargetTurns.{part_bits, behind_next}
 use Rattle.v_values.proofs.TargetFits.{part_fits, select_fits, select_writes}
@@ -19,8 +21,8 @@ use Rattle.v_values.proofs.targets.+queueing.Goals as goal
 
 -- ---- bits of a variable
 
-pub enqueue-returns-in_ok-push_bits-in-Part-clause-fit : goal.enqueue-returns-in_ok-push_bits-in-Part-clause-fit
-enqueue-returns-in_ok-push_bits-in-Part-clause-fit t c =
+pub enqueue-returns-in-Part-clause-fit : goal.enqueue-returns-in-Part-clause-fit
+enqueue-returns-in-Part-clause-fit t c =
     part_fits c.args.target.now _ _ _ _ c.args.names.now _ c.args.now.now.shape _ _ c.in-Part.is c.requires.kept
     (sym (λ i. has_width c.args.now.now.shape (c.look_up.ensures.kind i) (c.look_up.ensures.width i)) ∙ c.look_up.ensures.fits c.args.now.now.shape c.requires.fits) c.requires.below
 
@@ -42,15 +44,15 @@ enqueue-index_in-index-requires-clause-within t c =
     within c.in-Select.width
     (subst (λ (n : ℕ). is_width n ≡ true) (select_keeps c.args.target.now _ _ _ _ _ _ c.args.names.now c.args.now.now.shape.sites c.in-Select.is c.requires.kept).index_has c.value-index.ensures.word)
 
-pub enqueue-returns-in_ok-push_selected-in-Select-clause-writes : goal.enqueue-returns-in_ok-push_selected-in-Select-clause-writes
-enqueue-returns-in_ok-push_selected-in-Select-clause-writes t c =
-    c.in_ok-push_selected-in-Select.ensures (entry_at c.args.names.now c.in-Select.name) c.args.now.now.view (sym c.look_up-in-Select.ensures.width) (sym c.look_up-in-Select.ensures.low)
-    ∙ ap (λ (ws : List Write). writes_in c.args.queue.now.items ++ ws)
+pub enqueue-returns-in-Select-clause-writes : goal.enqueue-returns-in-Select-clause-writes
+enqueue-returns-in-Select-clause-writes t c =
+    c.push_selected.ensures.writes (entry_at c.args.names.now c.in-Select.name) c.args.now.now.view (sym c.look_up-in-Select.ensures.width) (sym c.look_up-in-Select.ensures.low)
+    ∙ ap (λ (ws : List Write). c.args.queue.now.writes ++ ws)
     (select_writes c.args.target.now _ _ _ _ _ _ c.args.names.now c.args.now.now.view c.args.bits _ _ c.in-Select.is c.look_up-in-Select.ensures.kind
     (c.index_in-index.ensures ∙ ap (index_in c.in-Select.width c.in-Select.signed) c.value-index.ensures.value))
 
-pub enqueue-returns-in_ok-push_selected-in-Select-clause-fit : goal.enqueue-returns-in_ok-push_selected-in-Select-clause-fit
-enqueue-returns-in_ok-push_selected-in-Select-clause-fit t c =
+pub enqueue-returns-in-Select-clause-fit : goal.enqueue-returns-in-Select-clause-fit
+enqueue-returns-in-Select-clause-fit t c =
     select_fits c.args.target.now _ _ _ _ _ _ c.args.names.now _ c.args.now.now.shape _ _ c.in-Select.is c.requires.kept
     (sym (λ i. has_width c.args.now.now.shape (c.look_up-in-Select.ensures.kind i) (c.look_up-in-Select.ensures.width i)) ∙ c.look_up-in-Select.ensures.fits c.args.now.now.shape c.requires.fits) c.requires.below
 
@@ -67,23 +69,26 @@ enqueue-enqueue_parts-requires t c = (
         c.target_width-width.ensures.width c.args.names.now ∙ ap (λ (m : TargetSense). m.width) (concat_target c.args.target.now _ _ c.args.names.now c.in-Concat.is c.as_slice.ensures),
         (
           within _ c.target_width-width.ensures.word,
-          subst (λ (n : ℕ). c.args.bits < 2 ^ n) (sym (c.target_width-width.ensures.width c.args.names.now)) c.requires.below,
+          (
+            subst (λ (n : ℕ). c.args.bits < 2 ^ n) (sym (c.target_width-width.ensures.width c.args.names.now)) c.requires.below,
+            omega (arith, concat_count c.args.target.now _ _ c.in-Concat.is c.as_slice.ensures, c.requires.room),
+          ),
         ),
       ),
     ),
   ),
 )
 
-pub enqueue-returns-in_ok-enqueue_parts-in-Concat-clause-writes : goal.enqueue-returns-in_ok-enqueue_parts-in-Concat-clause-writes
-enqueue-returns-in_ok-enqueue_parts-in-Concat-clause-writes t c =
-    c.in_ok-enqueue_parts-in-Concat.ensures.writes
-    ∙ ap (λ (m : TargetSense). writes_in c.args.queue.now.items ++ m.writes c.args.now.now.view c.args.bits)
+pub enqueue-returns-in-Concat-clause-writes : goal.enqueue-returns-in-Concat-clause-writes
+enqueue-returns-in-Concat-clause-writes t c =
+    c.enqueue_parts.ensures.writes
+    ∙ ap (λ (m : TargetSense). c.args.queue.now.writes ++ m.writes c.args.now.now.view c.args.bits)
     (sym (concat_target c.args.target.now _ _ c.args.names.now c.in-Concat.is c.as_slice.ensures))
 
-pub enqueue-returns-in_ok-enqueue_parts-in-Concat-clause-fit : goal.enqueue-returns-in_ok-enqueue_parts-in-Concat-clause-fit
-enqueue-returns-in_ok-enqueue_parts-in-Concat-clause-fit t c =
+pub enqueue-returns-in-Concat-clause-fit : goal.enqueue-returns-in-Concat-clause-fit
+enqueue-returns-in-Concat-clause-fit t c =
     ap (λ (m : TargetSense). all_fit c.args.now.now.shape (m.writes c.args.now.now.view c.args.bits)) (concat_target c.args.target.now _ _ c.args.names.now c.in-Concat.is c.as_slice.ensures)
-    ∙ c.in_ok-enqueue_parts-in-Concat.ensures.fit
+    ∙ c.enqueue_parts.ensures.fit
 
 pub enqueue_parts-enqueue-requires : goal.enqueue_parts-enqueue-requires
 enqueue_parts-enqueue-requires t c =
@@ -93,7 +98,10 @@ enqueue_parts-enqueue-requires t c =
         one_of (λ (x : TypedTarget). is_kept_target x c.args.names.now c.args.now.now.shape.sites) c.args.parts.now _ _ c.loop-part-test.true c.part-item.is c.requires.kept,
         (
           c.requires.fits,
-          part_bits c.args.names.now _ _ c.part-item.result _ _ _ _ _ _ _ _ _ _ _ next (c.target_width-width.ensures.width c.args.names.now) refl refl c.loop-part.invariant,
+          (
+            part_bits c.args.names.now _ _ c.part-item.result _ _ _ _ _ _ _ _ _ _ _ next (c.target_width-width.ensures.width c.args.names.now) refl refl c.loop-part.invariant.behind,
+            omega (arith, ap all_parts next, c.loop-part.invariant.few, c.loop-part.invariant.room, c.requires.room),
+          ),
         ),
       ),
     )
@@ -101,5 +109,12 @@ enqueue_parts-enqueue-requires t c =
 pub enqueue_parts-loop-part-preserved : goal.enqueue_parts-loop-part-preserved
 enqueue_parts-loop-part-preserved t c =
     let next = next_is c.args.parts.now _ _ c.loop-part-test.true c.part-item.is in
-    behind_next c.args.names.now _ _ c.part-item.result _ _ _ _ _ _ _ _ _ _ _ _ _ next (c.target_width-width.ensures.width c.args.names.now) refl refl c.cut-left.ensures.value
-    c.in_ok-enqueue.ensures.writes c.in_ok-enqueue.ensures.fit c.loop-part.invariant
+    record {
+      behind = behind_next c.args.names.now _ _ c.part-item.result _ _ _ _ _ _ _ _ _ _ _ _ _ next (c.target_width-width.ensures.width c.args.names.now) refl refl c.cut-left.ensures.value
+          c.enqueue.ensures.writes c.enqueue.ensures.fit c.loop-part.invariant.behind;
+      few = omega (arith, ap all_parts next, c.loop-part.invariant.few, c.enqueue.ensures.few);
+      room = c.enqueue.ensures.room ∙ c.loop-part.invariant.room;
+    }
+
+pub enqueue-returns-in-Concat-clause-few : goal.enqueue-returns-in-Concat-clause-few
+enqueue-returns-in-Concat-clause-few t c = omega (arith, concat_count c.args.target.now _ _ c.in-Concat.is c.as_slice.ensures, c.enqueue_parts.ensures.few)

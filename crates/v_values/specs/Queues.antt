@@ -1,0 +1,30 @@
+-- Writes that wait, and how many of them a target makes (1364-2005, 9.2.2 and 11.4.1).
+use Rattle.std.specs.Prelude.{ℕ, ◌+◌, List, [], ◌∷◌}
+use Rattle.v_meaning.specs.Views as view
+use Rattle.v_core.specs.declared.statement.TypedTarget.{TypedTarget}
+use Rattle.v_core.specs.declared.statement.TypedTarget.TheOpen.{TypedTarget-F}
+use Rattle.v_core.specs.declared.statement.TypedTarget.TheOpen as t
+use Rattle.v_core.specs.declared.statement.TypedTarget.TheFolds.{fold-TypedTarget}
+
+-- the writes, in their order, and how many there is room for in all
+pub record QueueValue : Type 0 where
+  pub writes : List view.Write
+  pub room : ℕ
+
+abbrev pub total : List ℕ → ℕ
+total [] = 0
+total (n ∷ ns) = n + total ns
+
+-- how many parts a target has; each is one write at most
+abbrev pub target_parts_step : TypedTarget-F ℕ → ℕ
+target_parts_step (t.Part name at low width) = 1
+target_parts_step (t.Select name at bits width signed index) = 1
+target_parts_step (t.Concat parts) = total parts
+
+abbrev pub target_parts : TypedTarget → ℕ
+target_parts = fold-TypedTarget ℕ target_parts_step
+
+-- how many all of several targets have
+abbrev pub all_parts : List TypedTarget → ℕ
+all_parts [] = 0
+all_parts (x ∷ xs) = target_parts x + all_parts xs

@@ -1,2 +1,4 @@
 pub mod TypedLaws
 pub mod BodyLaws
+pub mod FormLaws
+pub mod OpenFormLaws

@@ -1,6 +1,8 @@
 ghost use Rattle.std.specs.Prelude.{◌≡◌, IfOk};
 ghost use Rattle.v_core.specs.Values.{typed_value, link_values};
 ghost use Rattle.v_core.specs.Bodies.{body_value, fixed_links, link_bodies};
+ghost use Rattle.v_core.specs.Formed.{formed, link_forms};
+ghost use Rattle.v_core.specs.OpenForms.{body_form, body_forms, fixed_forms};
 
 use crate::making::{chained, chosen, extended, prefixed};
 use crate::{Body, Link, Typed};
@@ -12,7 +14,8 @@ use v_syntax::BinaryOperator;
 /// the only other answer.
 #[cycle(fixing)]
 pub fn fix(alloc: Global, body: Body, width: u32, signed: bool) -> Result<Typed, OutOfMemory>
-    ensures { IfOk result (λ t. typed_value t ≡ body_value body width signed) }
+    ensures value { IfOk result (λ t. typed_value t ≡ body_value body width signed) }
+    ensures form { IfOk result (λ t. formed t ≡ body_form body width signed) }
 {
     match body {
         Body::Leaf(from, x) => extended(alloc, x, from, width, signed),
@@ -42,7 +45,8 @@ fn fix_links(
     width: u32,
     signed: bool,
 ) -> Result<Items<(Link, Typed)>, OutOfMemory>
-    ensures { IfOk result (λ fixed. link_values fixed ≡ fixed_links (link_bodies links) width signed) }
+    ensures value { IfOk result (λ fixed. link_values fixed ≡ fixed_links (link_bodies links) width signed) }
+    ensures form { IfOk result (λ fixed. link_forms fixed ≡ fixed_forms (body_forms links) width signed) }
 {
     let mut left = links;
     let mut fixed = Vec::new(alloc);

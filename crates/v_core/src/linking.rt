@@ -1,7 +1,10 @@
-ghost use Rattle.std.specs.Prelude.{◌≡◌, IfOk};
+ghost use Rattle.std.specs.Prelude.{◌≡◌, IfOk, List, true};
 ghost use Rattle.v_meaning.specs.Senses.{operation};
 ghost use Rattle.v_core.specs.Values.{typed_value};
 ghost use Rattle.v_core.specs.Bodies.{body_value};
+ghost use Rattle.v_meaning.specs.declared.names.Entry.{Entry};
+ghost use Rattle.v_core.specs.Formed.{formed, has, has_at_most};
+ghost use Rattle.v_core.specs.OpenForms.{body_form, linked_form};
 
 use crate::{Body, Typed, fix};
 use lz_base::{Boxed, Items, OutOfMemory};
@@ -11,7 +14,8 @@ use v_syntax::BinaryOperator;
 /// As `fix`, for what stands before an operator: an unsigned chain that is no wider needs no extension there, so that a
 /// chain goes on with it. `OutOfMemory` is the only other answer.
 pub fn fix_before(alloc: Global, body: Body, width: u32, signed: bool) -> Result<Typed, OutOfMemory>
-    ensures { IfOk result (λ t. typed_value t ≡ body_value body width signed) }
+    ensures value { IfOk result (λ t. typed_value t ≡ body_value body width signed) }
+    ensures form { IfOk result (λ t. (names : List Entry) → has width (body_form body width signed names) ≡ true → has_at_most width (formed t names) ≡ true) }
 {
     if signed {
         return fix(alloc, body, width, signed);
@@ -24,7 +28,8 @@ pub fn fix_before(alloc: Global, body: Body, width: u32, signed: bool) -> Result
 
 // A chain of two operands.
 fn one_body(alloc: Global, operator: BinaryOperator, x: Body, y: Body) -> Result<Body, OutOfMemory>
-    ensures { IfOk result (λ b. body_value b ≡ (λ w s names v. operation operator w s (body_value x w s names v) (body_value y w s names v))) }
+    ensures value { IfOk result (λ b. body_value b ≡ (λ w s names v. operation operator w s (body_value x w s names v) (body_value y w s names v))) }
+    ensures form { IfOk result (λ b. body_form b ≡ (λ w s names. linked_form (record { operator = operator; width = w; signed = s }) (body_form x w s names) (body_form y w s names))) }
 {
     let mut links = Items::new(alloc);
     links.push((operator, y))?;
@@ -40,7 +45,8 @@ pub fn body_linked(
     x: Body,
     y: Body,
 ) -> Result<Body, OutOfMemory>
-    ensures { IfOk result (λ b. body_value b ≡ (λ w s names v. operation operator w s (body_value x w s names v) (body_value y w s names v))) }
+    ensures value { IfOk result (λ b. body_value b ≡ (λ w s names v. operation operator w s (body_value x w s names v) (body_value y w s names v))) }
+    ensures form { IfOk result (λ b. body_form b ≡ (λ w s names. linked_form (record { operator = operator; width = w; signed = s }) (body_form x w s names) (body_form y w s names))) }
 {
     match x {
         Body::Chain(first, links) => {

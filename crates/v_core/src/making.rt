@@ -1,6 +1,8 @@
-ghost use Rattle.std.specs.Prelude.{◌≡◌, ◌==◌, if◌then◌else◌, IfOk, List, [], ◌∷◌, ◌++◌};
+ghost use Rattle.std.specs.Prelude.{◌≡◌, ◌*◌, ◌==◌, if◌then◌else◌, IfOk, List, [], ◌∷◌, ◌++◌};
 ghost use Rattle.v_meaning.specs.Senses.{extended, operation, operation_before, copies};
 ghost use Rattle.v_core.specs.Values.{typed_value, chain_value, link_values, concat_value, part_values};
+ghost use Rattle.v_core.specs.Formed.{formed, formed_chain, formed_parts, has, link_forms, part_forms, within_words};
+ghost use Rattle.v_core.specs.OpenForms.{chosen_form, extended_form, linked_form, prefixed_form};
 
 use crate::{Link, Typed};
 use lz_base::{Boxed, Items, OutOfMemory};
@@ -16,7 +18,8 @@ pub fn extended(
     to: u32,
     signed: bool,
 ) -> Result<Typed, OutOfMemory>
-    ensures { IfOk result (λ t. typed_value t ≡ (λ names v. extended from (typed_value x names v) to signed)) }
+    ensures value { IfOk result (λ t. typed_value t ≡ (λ names v. extended from (typed_value x names v) to signed)) }
+    ensures form { IfOk result (λ t. formed t ≡ (λ names. extended_form from (formed x names) to)) }
 {
     if to <= from {
         return Ok(x);
@@ -36,7 +39,8 @@ pub fn prefixed(
     width: u32,
     x: Typed,
 ) -> Result<Typed, OutOfMemory>
-    ensures { IfOk result (λ t. typed_value t ≡ (λ names v. operation_before operator width (typed_value x names v))) }
+    ensures value { IfOk result (λ t. typed_value t ≡ (λ names v. operation_before operator width (typed_value x names v))) }
+    ensures form { IfOk result (λ t. formed t ≡ (λ names. prefixed_form operator width (formed x names))) }
 {
     Ok(Typed::Unary(operator, width, Boxed::new(alloc, x)?))
 }
@@ -49,7 +53,8 @@ pub fn chosen(
     x: Typed,
     y: Typed,
 ) -> Result<Typed, OutOfMemory>
-    ensures { IfOk result (λ t. typed_value t ≡ (λ names v. if typed_value condition names v == 0 then typed_value y names v else typed_value x names v)) }
+    ensures value { IfOk result (λ t. typed_value t ≡ (λ names v. if typed_value condition names v == 0 then typed_value y names v else typed_value x names v)) }
+    ensures form { IfOk result (λ t. formed t ≡ (λ names. chosen_form width (formed condition names) (formed x names) (formed y names))) }
 {
     Ok(Typed::Choice {
         width,
@@ -60,16 +65,18 @@ pub fn chosen(
 }
 
 /// The operands behind the first one, each behind its operator, from the left.
-#[tactic(auto, using(crate::proofs::TypedLaws::typed_chain))]
+#[tactic(auto, using(crate::proofs::TypedLaws::typed_chain, crate::proofs::FormLaws::form_chain))]
 pub fn chained(alloc: Global, x: Typed, links: Items<(Link, Typed)>) -> Result<Typed, OutOfMemory>
-    ensures { IfOk result (λ t. typed_value t ≡ (λ names v. chain_value (typed_value x names v) (link_values links) names v)) }
+    ensures value { IfOk result (λ t. typed_value t ≡ (λ names v. chain_value (typed_value x names v) (link_values links) names v)) }
+    ensures form { IfOk result (λ t. formed t ≡ (λ names. formed_chain (formed x names) (link_forms links) names)) }
 {
     Ok(Typed::Chain(Boxed::new(alloc, x)?, links))
 }
 
 // A chain of two operands.
 fn one_link(alloc: Global, x: Typed, link: Link, y: Typed) -> Result<Typed, OutOfMemory>
-    ensures { IfOk result (λ t. typed_value t ≡ (λ names v. operation link.operator link.width link.signed (typed_value x names v) (typed_value y names v))) }
+    ensures value { IfOk result (λ t. typed_value t ≡ (λ names v. operation link.operator link.width link.signed (typed_value x names v) (typed_value y names v))) }
+    ensures form { IfOk result (λ t. formed t ≡ (λ names. linked_form link (formed x names) (formed y names))) }
 {
     let mut links = Items::new(alloc);
     links.push((link, y))?;
@@ -79,7 +86,8 @@ fn one_link(alloc: Global, x: Typed, link: Link, y: Typed) -> Result<Typed, OutO
 
 /// One more operator and operand behind an expression; behind a chain it goes on with that.
 pub fn linked(alloc: Global, x: Typed, link: Link, y: Typed) -> Result<Typed, OutOfMemory>
-    ensures { IfOk result (λ t. typed_value t ≡ (λ names v. operation link.operator link.width link.signed (typed_value x names v) (typed_value y names v))) }
+    ensures value { IfOk result (λ t. typed_value t ≡ (λ names v. operation link.operator link.width link.signed (typed_value x names v) (typed_value y names v))) }
+    ensures form { IfOk result (λ t. formed t ≡ (λ names. linked_form link (formed x names) (formed y names))) }
 {
     match x {
         Typed::Chain(first, links) => {
@@ -92,16 +100,18 @@ pub fn linked(alloc: Global, x: Typed, link: Link, y: Typed) -> Result<Typed, Ou
 }
 
 /// Operands side by side, each with its width; the first is the most significant.
-#[tactic(auto, using(crate::proofs::TypedLaws::typed_concat))]
+#[tactic(auto, using(crate::proofs::TypedLaws::typed_concat, crate::proofs::FormLaws::form_concat))]
 pub fn side_by_side(parts: Items<(u32, Typed)>) -> Typed
-    ensures { typed_value result ≡ concat_value 0 (part_values parts) }
+    ensures value { typed_value result ≡ concat_value 0 (part_values parts) }
+    ensures form { formed result ≡ (λ names. within_words (formed_parts (part_forms parts) names)) }
 {
     Typed::Concat(parts)
 }
 
 /// So many copies of an operand of this width side by side.
 pub fn copied(alloc: Global, count: u32, width: u32, x: Typed) -> Result<Typed, OutOfMemory>
-    ensures { IfOk result (λ t. typed_value t ≡ (λ names v. copies count width (typed_value x names v))) }
+    ensures value { IfOk result (λ t. typed_value t ≡ (λ names v. copies count width (typed_value x names v))) }
+    ensures form { IfOk result (λ t. formed t ≡ (λ names. within_words (record { width = count * width; kept = has width (formed x names) }))) }
 {
     Ok(Typed::Copies {
         count,

@@ -8,7 +8,7 @@ use Rattle.v_syntax.specs.declared.expr.BinaryOperator.TheVariants as b
 use Rattle.v_meaning.specs.Senses.{Class, Shared, Compared, Shifted, Logical, class_of, bit, operation}
 use Rattle.v_words.specs.Operands.{AreOperands}
 use Rattle.v_core.specs.declared.typed.Link.{Link}
-use Rattle.v_values.specs.Formed.{Formed, has, has_at_most, is_width, linked_by}
+use Rattle.v_core.specs.Formed.{Formed, has, has_at_most, is_width, linked_by}
 use Rattle.v_values.specs.Chains.{Meets, working_width}
 use Rattle.v_values.proofs.Tests.{first_of, second_of}
 

@@ -12,7 +12,7 @@ use Rattle.v_core.specs.declared.typed.Typed.{Typed}
 use Rattle.v_core.specs.declared.statement.TypedTarget.{TypedTarget}
 use Rattle.v_core.specs.declared.statement.TypedTarget.TheVariants as t
 use Rattle.v_core.specs.Values.{entry_at, index_in, typed_value}
-use Rattle.v_values.specs.Formed.{is_width, selected_width}
+use Rattle.v_core.specs.Formed.{is_width, selected_width}
 use Rattle.v_core.specs.Statements.{target_in}
 use Rattle.v_values.specs.Kept.{is_kept_target}
 use Rattle.v_values.specs.Moments.{Shape, has_width}

@@ -19,10 +19,10 @@ use Rattle.v_core.specs.declared.statement.TypedTarget.TheViews.{size_is-TypedTa
 use Rattle.v_core.proofs.statement.TypedTarget.TheLaws.{the_size}
 use denote.Param.Weighed.{most}
 use Rattle.v_core.specs.Values.{entry_at, index_in, typed_value}
-use Rattle.v_values.specs.Formed.{Formed, formed, has, is_width, selected_width}
+use Rattle.v_core.specs.Formed.{Formed, formed, has, is_width, selected_width}
 use Rattle.v_core.specs.Statements.{TargetIn, target_senses, target_in_step, target_in, writes_in}
 use Rattle.v_values.specs.Kept.{KeptIn, JudgedTarget, judged_senses, kept_target_step, is_kept_target, senses_in}
-use Rattle.v_values.specs.Sited.{is_sited}
+use Rattle.v_core.specs.Sited.{is_sited}
 use Rattle.v_values.proofs.Tests.{first_of, second_of, within as at_most_128}
 
 pub parts_deeper : (parts : List TypedTarget) → most the_size parts < the_size (t.Concat parts)

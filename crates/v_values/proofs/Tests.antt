@@ -2,7 +2,7 @@
 use Rattle.std.proofs.Common.{◌≡◌, ◌≤◌, refl, ◌&&◌, ℕ, Bool, true, false}
 use Rattle.std.specs.Prelude.{nat_le}
 use Rattle.std.proofs.lemmas.Bool.{leb-true}
-use Rattle.v_values.specs.Formed.{is_width}
+use Rattle.v_core.specs.Formed.{is_width}
 
 pub first_of : (a b : Bool) → (a && b) ≡ true → a ≡ true
 first_of true b h = refl

@@ -13,8 +13,8 @@ use Rattle.v_core.specs.declared.typed.Typed.TheVariants as e
 use Rattle.v_core.specs.declared.typed.Typed.TheOpen as o
 use Rattle.v_core.specs.declared.typed.Typed.TheFolds.{fold-roll-Typed}
 use Rattle.v_core.specs.Values.{Value, entry_at, typed_step, typed_value, chain_value, concat_value, link_values, part_values}
-use Rattle.v_values.specs.Formed.{Formed, FormedIn, has, is_width, selected_width, within_words, formed, formed_chain, formed_parts, formed_step, link_forms, part_forms}
-use Rattle.v_values.specs.Sited.{SitedIn, sited_step, is_sited}
+use Rattle.v_core.specs.Formed.{Formed, FormedIn, has, is_width, selected_width, within_words, formed, formed_chain, formed_parts, formed_step, link_forms, part_forms}
+use Rattle.v_core.specs.Sited.{SitedIn, sited_step, is_sited}
 use Rattle.v_values.proofs.Tests.{first_of, second_of}
 
 -- ---- operands behind the first one

@@ -4,7 +4,7 @@ use Rattle.v_meaning.specs.Senses.{Class, Shared, Compared, Shifted, Logical, cl
 use Rattle.v_meaning.specs.declared.names.Entry.{Entry}
 use Rattle.v_core.specs.declared.typed.Link.{Link}
 use Rattle.v_core.specs.declared.typed.Typed.{Typed}
-use Rattle.v_values.specs.Formed.{Formed, formed_chain, is_width, linked_by, link_forms}
+use Rattle.v_core.specs.Formed.{Formed, formed_chain, is_width, linked_by, link_forms}
 
 -- a value of some width, behind which the operands keep to their widths
 pub record Begins (form : Formed) (first : ℕ) (links : List (Link × Typed)) (names : List Entry) : Type 0 where

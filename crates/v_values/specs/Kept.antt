@@ -9,8 +9,8 @@ use Rattle.v_core.specs.declared.statement.TypedTarget.TheOpen as t
 use Rattle.v_core.specs.declared.statement.TypedTarget.TheFolds.{para-TypedTarget}
 use Rattle.v_core.specs.Values.{entry_at}
 use Rattle.v_core.specs.Statements.{target_in}
-use Rattle.v_values.specs.Formed.{formed, has, is_width, selected_width}
-use Rattle.v_values.specs.Sited.{is_sited}
+use Rattle.v_core.specs.Formed.{formed, has, is_width, selected_width}
+use Rattle.v_core.specs.Sited.{is_sited}
 
 -- ---- targets
 

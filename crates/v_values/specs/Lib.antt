@@ -1,7 +1,5 @@
-pub mod Formed
 pub mod Moments
 pub mod Seen
-pub mod Sited
 pub mod Chains
 pub mod Writes
 pub mod Kept

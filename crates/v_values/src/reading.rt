@@ -2,7 +2,7 @@ ghost use Rattle.std.specs.Prelude.{◌≡◌, ◌≤◌, ◌<◌, ◌^◌, true
 ghost use Rattle.v_meaning.specs.declared.names.Entry.{Entry};
 ghost use Rattle.v_meaning.specs.Names.{within};
 ghost use Rattle.v_core.specs.Values.{entry_at, index_in, selected_value};
-ghost use Rattle.v_values.specs.Formed.{selected_width};
+ghost use Rattle.v_core.specs.Formed.{selected_width};
 ghost use Rattle.v_values.specs.Moments.{Shape, has_width, fit};
 
 use crate::moment::Moment;

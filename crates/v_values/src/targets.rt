@@ -4,7 +4,7 @@ ghost use Rattle.v_meaning.specs.Targets.{TargetSense, parts_width, parts_writes
 ghost use Rattle.v_meaning.specs.Views.{View, applied};
 ghost use Rattle.v_meaning.specs.declared.names.Entry.{Entry};
 ghost use Rattle.v_core.specs.declared.statement.TypedTarget.{TypedTarget};
-ghost use Rattle.v_values.specs.Formed.{is_width};
+ghost use Rattle.v_core.specs.Formed.{is_width};
 ghost use Rattle.v_core.specs.Statements.{target_in};
 ghost use Rattle.v_values.specs.Kept.{is_kept_target, senses_in};
 ghost use Rattle.v_values.specs.Moments.{Shape, fit};

@@ -6,10 +6,10 @@ ghost use Rattle.v_core.specs.declared.typed.Link.{Link};
 ghost use Rattle.v_core.specs.declared.typed.Typed.{Typed};
 ghost use Rattle.v_meaning.specs.Names.{word_of};
 ghost use Rattle.v_core.specs.Values.{entry_at, typed_value, chain_value, concat_value, link_values, part_values};
-ghost use Rattle.v_values.specs.Formed.{Formed, formed, formed_chain, formed_parts, is_width, linked_by, link_forms, part_forms};
+ghost use Rattle.v_core.specs.Formed.{Formed, formed, formed_chain, formed_parts, is_width, linked_by, link_forms, part_forms};
 ghost use Rattle.v_values.specs.Chains.{Begins, Meets, working_width};
 ghost use Rattle.v_values.specs.Moments.{fit};
-ghost use Rattle.v_values.specs.Sited.{is_sited};
+ghost use Rattle.v_core.specs.Sited.{is_sited};
 
 use crate::moment::Moment;
 use crate::reading::{index_in, look_up, selected};

@@ -1,5 +1,9 @@
 use Rattle.v_core.proofs.TypedLaws.{linked_behind_chain}
+use Rattle.v_core.proofs.FormLaws.{form_behind_chain}
 use Rattle.v_core.proofs.making.linked.Goals as goal
 
-pub returns-in_ok-push-in-Chain : goal.returns-in_ok-push-in-Chain
-returns-in_ok-push-in-Chain c = linked_behind_chain _ _ _ _ _ _ c.in-Chain.is c.in_ok-push-in-Chain.ensures.ok
+pub returns-in_ok-push-in-Chain-clause-value : goal.returns-in_ok-push-in-Chain-clause-value
+returns-in_ok-push-in-Chain-clause-value c = linked_behind_chain _ _ _ _ _ _ c.in-Chain.is c.in_ok-push-in-Chain.ensures.ok
+
+pub returns-in_ok-push-in-Chain-clause-form : goal.returns-in_ok-push-in-Chain-clause-form
+returns-in_ok-push-in-Chain-clause-form c = form_behind_chain _ _ _ _ _ _ c.in-Chain.is c.in_ok-push-in-Chain.ensures.ok

@@ -5,7 +5,7 @@ use Rattle.v_meaning.specs.Views.{Write}
 use Rattle.v_meaning.specs.Targets.{TargetSense}
 use Rattle.v_core.proofs.statement.TypedTarget.TheLaws.{the_size}
 use Rattle.v_core.specs.declared.statement.TypedTarget.{TypedTarget}
-use Rattle.v_values.specs.Formed.{is_width}
+use Rattle.v_core.specs.Formed.{is_width}
 use Rattle.v_core.specs.Values.{entry_at, index_in}
 use Rattle.v_values.specs.Kept.{is_kept_target}
 use Rattle.v_values.specs.Moments.{has_width}

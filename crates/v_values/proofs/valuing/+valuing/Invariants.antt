@@ -1,6 +1,6 @@
 use Rattle.std.proofs.Common.{◌≡◌, drop}
 use Rattle.v_core.specs.Values.{chain_value, link_values}
-use Rattle.v_values.specs.Formed.{Formed}
+use Rattle.v_core.specs.Formed.{Formed}
 use Rattle.v_values.specs.Chains.{Begins}
 use Rattle.v_values.proofs.Chains.{Follows}
 use Rattle.v_values.proofs.Parts.{AreLeft}

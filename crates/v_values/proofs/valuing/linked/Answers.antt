@@ -1,7 +1,7 @@
 use Rattle.std.proofs.Common.{◌≡◌, ◌<◌, sym, ap, subst, ◌∙◌, ℕ, true}
 use Rattle.std.specs.Prelude.{◌^◌}
 use Rattle.v_meaning.specs.Senses.{class_of, operation}
-use Rattle.v_values.specs.Formed.{is_width}
+use Rattle.v_core.specs.Formed.{is_width}
 use Rattle.v_words.specs.Operands.{AreOperands}
 use Rattle.v_values.proofs.Tests.{has_bit, within}
 use Rattle.v_values.proofs.Links.{word_of_link, operands_of_link, at_any_width, link_result}

@@ -8,7 +8,7 @@ use Rattle.v_core.specs.declared.typed.Typed.TheOpen.{Typed-F}
 use Rattle.v_core.specs.declared.typed.Typed.TheOpen as t
 use Rattle.v_core.specs.declared.typed.Typed.TheFolds.{fold-Typed}
 use Rattle.v_core.specs.Values.{entry_at}
-use Rattle.v_values.specs.Formed.{selected_width}
+use Rattle.v_core.specs.Formed.{selected_width}
 
 -- over the declared names, and how many bits each site has
 abbrev pub SitedIn : Type 0

@@ -10,7 +10,7 @@ use Rattle.v_meaning.specs.declared.names.Entry.{Entry}
 use Rattle.v_core.specs.declared.typed.Link.{Link}
 use Rattle.v_core.specs.declared.typed.Typed.{Typed}
 use Rattle.v_core.specs.Values.{typed_value, chain_value, link_values}
-use Rattle.v_core.specs.Formed.{Formed, FormedIn, has, has_at_most, is_width, formed, formed_chain, linked_by, link_forms}
+use Rattle.v_core.specs.Formed.{Formed, has, has_at_most, is_width, formed, formed_chain, linked_by, link_forms}
 use Rattle.v_values.specs.Chains.{Begins, Meets}
 use Rattle.v_values.proofs.Tests.{first_of, second_of}
 

@@ -1,5 +1,5 @@
 -- Which operands an operator of a chain takes, and what it gives at its width.
-use Rattle.std.proofs.Common.{◌≡◌, ◌≤◌, ◌<◌, refl, sym, ap, subst, ◌∙◌, ◌&&◌, arith, ℕ, Bool, true, false}
+use Rattle.std.proofs.Common.{◌≡◌, ◌≤◌, ◌<◌, refl, sym, subst, ◌&&◌, arith, ℕ, Bool, true, false}
 use Rattle.std.specs.Prelude.{◌^◌, ◌==◌, nat_le}
 use Rattle.std.proofs.lemmas.Bool.{leb-true, eqb-true}
 use Rattle.std.proofs.Math.Nat.{pow-le-pow_right}

@@ -1,5 +1,5 @@
 -- The turns of operands side by side.
-use Rattle.std.proofs.Common.{◌≡◌, ◌≤◌, ◌<◌, ◌+◌, ◌*◌, ap, sym, subst, ◌∙◌, refl, arith, ℕ, length, drop, List, [], ◌∷◌, Bool, true, ◌&&◌}
+use Rattle.std.proofs.Common.{◌≡◌, ◌≤◌, ◌<◌, ◌+◌, ◌*◌, ap, sym, subst, ◌∙◌, arith, ℕ, length, drop, List, ◌∷◌, true, ◌&&◌}
 use Rattle.std.specs.Prelude.{◌^◌, ◌==◌}
 use Rattle.std.proofs.lemmas.List.{drop_all}
 use Rattle.std.proofs.lemmas.Bool.{eqb-true}
@@ -7,7 +7,7 @@ use Rattle.v_meaning.specs.Views.{View}
 use Rattle.v_meaning.specs.declared.names.Entry.{Entry}
 use Rattle.v_core.specs.declared.typed.Typed.{Typed}
 use Rattle.v_core.specs.Values.{typed_value, concat_value, part_values}
-use Rattle.v_core.specs.Formed.{Formed, has, formed, formed_parts, part_forms}
+use Rattle.v_core.specs.Formed.{has, formed, formed_parts, part_forms}
 use Rattle.v_values.proofs.Tests.{first_of, second_of}
 
 -- what is left of the operands keeps to its widths, and with so many bits before it has as many as all of them

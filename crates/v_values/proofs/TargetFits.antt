@@ -18,7 +18,7 @@ use Rattle.v_values.specs.Kept.{is_kept_target}
 use Rattle.v_values.specs.Moments.{Shape, has_width}
 use Rattle.v_values.specs.Writes.{all_fit, place_width}
 use Rattle.v_values.proofs.Tests.{first_of, second_of, has_bit}
-use Rattle.v_values.proofs.TargetLaws.{part_means, select_means, part_keeps, SelectKept, select_keeps}
+use Rattle.v_values.proofs.TargetLaws.{part_means, select_means, part_keeps, select_keeps}
 
 -- a write of so many bits
 abbrev write_of : Place → ℕ → ℕ → ℕ → Write

@@ -1,28 +1,26 @@
 -- What typed targets write, and what the parts of a target keep that can be written.
-use Rattle.std.proofs.Common.{◌≡◌, ◌≤◌, ◌<◌, ◌+◌, ◌/◌, ◌%◌, ap, sym, subst, ◌∙◌, refl, arith, ℕ, List, [], ◌∷◌, map, Bool, true, ◌&&◌}
-use Rattle.std.specs.Prelude.{◌^◌, ◌==◌, nat_le, Option, None, Some}
+use Rattle.std.proofs.Common.{◌≡◌, ◌≤◌, ◌<◌, ◌+◌, ◌%◌, ap, sym, subst, ◌∙◌, refl, arith, ℕ, List, [], ◌∷◌, map, Bool, true, ◌&&◌}
+use Rattle.std.specs.Prelude.{◌^◌, ◌==◌, nat_le}
 use Rattle.std.specs.List.{list_all}
-use Rattle.std.proofs.lemmas.Bool.{leb-true, eqb-true, le-leb, lt-ltb}
-use Rattle.std.proofs.lemmas.List.Folds.{list_all-map}
+use Rattle.std.proofs.lemmas.Bool.{eqb-true}
 use Rattle.v_meaning.specs.Views.{View}
-use Rattle.v_meaning.specs.Names.{within}
 use Rattle.v_meaning.specs.Targets.{TargetSense, parts_width, parts_writes, place_of, selected_target, write_bits}
-use Rattle.v_meaning.specs.declared.names.Kind.{Kind}
-use Rattle.v_meaning.specs.declared.names.Kind.TheVariants as k
 use Rattle.v_meaning.specs.declared.names.Entry.{Entry}
 use Rattle.v_core.specs.declared.typed.Typed.{Typed}
 use Rattle.v_core.specs.declared.statement.TypedTarget.{TypedTarget}
 use Rattle.v_core.specs.declared.statement.TypedTarget.TheVariants as t
 use Rattle.v_core.specs.declared.statement.TypedTarget.TheOpen as o
-use Rattle.v_core.specs.declared.statement.TypedTarget.TheFolds.{fold-roll-TypedTarget, para-roll-TypedTarget}
+use Rattle.v_core.specs.declared.statement.TypedTarget.TheOpen.{TypedTarget-F}
+use Rattle.v_core.specs.declared.statement.TypedTarget.TheFolds.{map-TypedTarget, fold-roll-TypedTarget, ind-TypedTarget}
 use Rattle.v_core.specs.declared.statement.TypedTarget.TheViews.{size_is-TypedTarget, roll-TypedTarget, out-roll-TypedTarget}
 use Rattle.v_core.proofs.statement.TypedTarget.TheLaws.{the_size}
 use denote.Param.Weighed.{most}
 use Rattle.v_core.specs.Values.{entry_at, index_in, typed_value}
-use Rattle.v_core.specs.Formed.{Formed, formed, has, is_width, selected_width}
+use Rattle.v_core.specs.Formed.{Formed, FormedIn, formed, has, is_width, selected_width}
 use Rattle.v_core.specs.Statements.{TargetIn, target_senses, target_in_step, target_in, writes_in}
-use Rattle.v_values.specs.Kept.{KeptIn, JudgedTarget, judged_senses, kept_target_step, is_kept_target, senses_in}
-use Rattle.v_core.specs.Sited.{is_sited}
+use Rattle.v_core.specs.FormedCores.{target_form, target_form_step, target_parts}
+use Rattle.v_values.specs.Kept.{is_kept_target, is_sited_target, senses_in, sited_target_step}
+use Rattle.v_core.specs.Sited.{SitedIn, is_sited}
 use Rattle.v_values.proofs.Tests.{first_of, second_of, within as at_most_128}
 
 pub parts_deeper : (parts : List TypedTarget) → most the_size parts < the_size (t.Concat parts)
@@ -67,13 +65,17 @@ concat_target x parts more names is p =
 
 -- ---- what their parts keep
 
+-- the form of bits of a variable
+abbrev part_form : List Entry → ℕ → ℕ → ℕ → Formed
+part_form names name low w = record { width = w; kept = is_width w && nat_le (low + w) (entry_at names name).width }
+
 pub part_keeps : (x : TypedTarget) (name at low w : ℕ) (names : List Entry) (sites : List ℕ) → x ≡ t.Part name at low w → is_kept_target x names sites ≡ true →
     (is_width w && nat_le (low + w) (entry_at names name).width) ≡ true
 part_keeps x name at low w names sites is h =
-    sym
-    (ap (λ (y : TypedTarget). is_kept_target y names sites) (is ∙ sym (t.rolls-Part name at low w))
-    ∙ ap (λ (f : KeptIn). f names sites) (para-roll-TypedTarget KeptIn kept_target_step (o.Part name at low w)))
-    ∙ h
+    let form : target_form x names ≡ part_form names name low w =
+    ap (λ (y : TypedTarget). target_form y names) (is ∙ sym (t.rolls-Part name at low w))
+    ∙ ap (λ (f : FormedIn). f names) (fold-roll-TypedTarget FormedIn target_form_step (o.Part name at low w)) in
+    sym (ap (λ (f : Formed). f.kept) form) ∙ first_of (target_form x names).kept (is_sited_target x names sites) h
 
 -- the width of the name's word, how many bits are selected of it, and the index
 pub record SelectKept (names : List Entry) (sites : List ℕ) (name bits w : ℕ) (index : Typed) : Type 0 where
@@ -83,48 +85,107 @@ pub record SelectKept (names : List Entry) (sites : List ℕ) (name bits w : ℕ
   pub index_kept : (formed index names).kept ≡ true
   pub sited : is_sited index names sites ≡ true
 
+-- the form of a bit or word at an index
+abbrev select_form : List Entry → ℕ → ℕ → ℕ → Typed → Formed
+select_form names name bits w index = record {
+  width = bits;
+  kept = is_width (entry_at names name).width && bits == selected_width (entry_at names name).kind (entry_at names name).width
+      && has w (formed index names);
+}
+
 pub select_keeps : (x : TypedTarget) (name at bits w : ℕ) (s : Bool) (index : Typed) (names : List Entry) (sites : List ℕ) → x ≡ t.Select name at bits w s index →
     is_kept_target x names sites ≡ true → SelectKept names sites name bits w index
 select_keeps x name at bits w s index names sites is h =
     let word = is_width (entry_at names name).width in
     let same = bits == selected_width (entry_at names name).kind (entry_at names name).width in
     let index_has = has w (formed index names) in
-    let all : (((word && same) && index_has) && is_sited index names sites) ≡ true =
-    sym
-    (ap (λ (y : TypedTarget). is_kept_target y names sites) (is ∙ sym (t.rolls-Select name at bits w s index))
-    ∙ ap (λ (f : KeptIn). f names sites) (para-roll-TypedTarget KeptIn kept_target_step (o.Select name at bits w s index)))
-    ∙ h in
-    let front : ((word && same) && index_has) ≡ true = first_of ((word && same) && index_has) (is_sited index names sites) all in
-    let last : index_has ≡ true = second_of (word && same) index_has front in
+    let form : target_form x names ≡ select_form names name bits w index =
+    ap (λ (y : TypedTarget). target_form y names) (is ∙ sym (t.rolls-Select name at bits w s index))
+    ∙ ap (λ (f : FormedIn). f names) (fold-roll-TypedTarget FormedIn target_form_step (o.Select name at bits w s index)) in
+    let place : is_sited_target x names sites ≡ is_sited index names sites =
+    ap (λ (y : TypedTarget). is_sited_target y names sites) (is ∙ sym (t.rolls-Select name at bits w s index))
+    ∙ ap (λ (f : SitedIn). f names sites) (fold-roll-TypedTarget SitedIn sited_target_step (o.Select name at bits w s index)) in
+    let all : ((word && same) && index_has) ≡ true =
+    sym (ap (λ (f : Formed). f.kept) form) ∙ first_of (target_form x names).kept (is_sited_target x names sites) h in
+    let front : (word && same) ≡ true = first_of (word && same) index_has all in
+    let last : index_has ≡ true = second_of (word && same) index_has all in
     record {
-      word = first_of word same (first_of (word && same) index_has front);
-      bits_are = eqb-true bits (selected_width (entry_at names name).kind (entry_at names name).width) (second_of word same (first_of (word && same) index_has front));
+      word = first_of word same front;
+      bits_are = eqb-true bits (selected_width (entry_at names name).kind (entry_at names name).width) (second_of word same front);
       index_has = eqb-true (formed index names).width w (first_of ((formed index names).width == w) (formed index names).kept last);
       index_kept = second_of ((formed index names).width == w) (formed index names).kept last;
-      sited = second_of ((word && same) && index_has) (is_sited index names sites) all;
+      sited = sym place ∙ second_of (target_form x names).kept (is_sited_target x names sites) h;
     }
 
-abbrev judged : TypedTarget → JudgedTarget
-judged x = (x, is_kept_target x)
+-- ---- parts side by side
 
-judged_map : (names : List Entry) (parts : List TypedTarget) → judged_senses names (map judged parts) ≡ senses_in names parts
-judged_map names [] = refl
-judged_map names (x ∷ xs) = ap (λ (r : List TargetSense). target_in x names ∷ r) (judged_map names xs)
+module _ (names : List Entry) where
+  -- a target has as many bits as its form
+  abbrev IsWide : TypedTarget → Type 0
+  IsWide x = (target_form x names).width ≡ (target_in x names).width
 
-concat_kept : (x : TypedTarget) (parts : List TypedTarget) (names : List Entry) (sites : List ℕ) → x ≡ t.Concat parts → is_kept_target x names sites ≡ true →
-    (is_width (parts_width (senses_in names parts)) && list_all (λ (y : TypedTarget). is_kept_target y names sites) parts) ≡ true
-concat_kept x parts names sites is h =
+  abbrev Wide : Type 0
+  Wide = (x : TypedTarget) × IsWide x
+
+  abbrev plain : Wide → TypedTarget
+  plain x = x.0
+
+  abbrev WideLayer : TypedTarget-F TypedTarget → Type 0
+  WideLayer y =
+      (target_form_step (map-TypedTarget TypedTarget FormedIn target_form y) names).width ≡ (target_in_step (map-TypedTarget TypedTarget TargetIn target_in y) names).width
+
+  parts_wide : (xs : List Wide) → (target_parts (map target_form (map plain xs)) names).width ≡ parts_width (target_senses (map target_in (map plain xs)) names)
+  parts_wide [] = refl
+  parts_wide (x ∷ xs) = λ i. x.1 i + parts_wide xs i
+
+  layer_wide : (y : TypedTarget-F Wide) → WideLayer (map-TypedTarget Wide TypedTarget plain y)
+  layer_wide (o.Part name at low width) = refl
+  layer_wide (o.Select name at bits width signed index) = refl
+  layer_wide (o.Concat parts) = parts_wide parts
+
+  pub form_width : (x : TypedTarget) → IsWide x
+  form_width = ind-TypedTarget IsWide (λ x y is.
+      ap (λ (f : FormedIn). (f names).width) (fold-roll-TypedTarget FormedIn target_form_step x)
+      ∙ subst WideLayer is (layer_wide y)
+      ∙ sym (ap (λ (f : TargetIn). (f names).width) (fold-roll-TypedTarget TargetIn target_in_step x)))
+
+widths_are : (names : List Entry) (parts : List TypedTarget) → (target_parts (map target_form parts) names).width ≡ parts_width (senses_in names parts)
+widths_are names [] = refl
+widths_are names (x ∷ xs) = λ i. form_width names x i + widths_are names xs i
+
+-- each of the parts can be written
+parts_kept : (names : List Entry) (sites : List ℕ) (parts : List TypedTarget) → (target_parts (map target_form parts) names).kept ≡ true →
+    list_all (λ (x : SitedIn). x names sites) (map is_sited_target parts) ≡ true → list_all (λ (y : TypedTarget). is_kept_target y names sites) parts ≡ true
+parts_kept names sites [] h k = refl
+parts_kept names sites (x ∷ xs) h k =
+    let form = (target_form x names).kept in
+    let forms = (target_parts (map target_form xs) names).kept in
+    let sited = is_sited_target x names sites in
+    let sites_of = list_all (λ (f : SitedIn). f names sites) (map is_sited_target xs) in
+    λ i. (first_of form forms h i && first_of sited sites_of k i) && parts_kept names sites xs (second_of form forms h) (second_of sited sites_of k) i
+
+concat_form : (x : TypedTarget) (parts : List TypedTarget) (names : List Entry) (sites : List ℕ) → x ≡ t.Concat parts → is_kept_target x names sites ≡ true →
+    (is_width (target_parts (map target_form parts) names).width && (target_parts (map target_form parts) names).kept) ≡ true
+concat_form x parts names sites is h =
     sym
-    (ap (λ (y : TypedTarget). is_kept_target y names sites) (is ∙ sym (t.rolls-Concat parts))
-    ∙ ap (λ (f : KeptIn). f names sites) (para-roll-TypedTarget KeptIn kept_target_step (o.Concat parts))
-    ∙ (λ i. is_width (parts_width (judged_map names parts i)) && list_all-map (λ (p : JudgedTarget). p.1 names sites) judged parts i))
-    ∙ h
+    (ap (λ (y : TypedTarget). (target_form y names).kept) (is ∙ sym (t.rolls-Concat parts))
+    ∙ ap (λ (f : FormedIn). (f names).kept) (fold-roll-TypedTarget FormedIn target_form_step (o.Concat parts)))
+    ∙ first_of (target_form x names).kept (is_sited_target x names sites) h
+
+concat_sited : (x : TypedTarget) (parts : List TypedTarget) (names : List Entry) (sites : List ℕ) → x ≡ t.Concat parts → is_kept_target x names sites ≡ true →
+    list_all (λ (f : SitedIn). f names sites) (map is_sited_target parts) ≡ true
+concat_sited x parts names sites is h =
+    sym
+    (ap (λ (y : TypedTarget). is_sited_target y names sites) (is ∙ sym (t.rolls-Concat parts))
+    ∙ ap (λ (f : SitedIn). f names sites) (fold-roll-TypedTarget SitedIn sited_target_step (o.Concat parts)))
+    ∙ second_of (target_form x names).kept (is_sited_target x names sites) h
 
 pub concat_word : (x : TypedTarget) (parts more : List TypedTarget) (names : List Entry) (sites : List ℕ) → x ≡ t.Concat parts → more ≡ parts →
     is_kept_target x names sites ≡ true → is_width (parts_width (senses_in names more)) ≡ true
 concat_word x parts more names sites is p h =
-    ap (λ (ps : List TypedTarget). is_width (parts_width (senses_in names ps))) p
-    ∙ first_of (is_width (parts_width (senses_in names parts))) (list_all (λ (y : TypedTarget). is_kept_target y names sites) parts) (concat_kept x parts names sites is h)
+    let forms = target_parts (map target_form parts) names in
+    ap (λ (ps : List TypedTarget). is_width (parts_width (senses_in names ps))) p ∙ sym (ap is_width (widths_are names parts))
+    ∙ first_of (is_width forms.width) forms.kept (concat_form x parts names sites is h)
 
 pub concat_narrow : (x : TypedTarget) (parts more : List TypedTarget) (names : List Entry) (sites : List ℕ) → x ≡ t.Concat parts → more ≡ parts →
     is_kept_target x names sites ≡ true → parts_width (senses_in names more) ≤ 128
@@ -133,8 +194,9 @@ concat_narrow x parts more names sites is p h = at_most_128 _ (concat_word x par
 pub concat_keeps : (x : TypedTarget) (parts more : List TypedTarget) (names : List Entry) (sites : List ℕ) → x ≡ t.Concat parts → more ≡ parts →
     is_kept_target x names sites ≡ true → list_all (λ (y : TypedTarget). is_kept_target y names sites) more ≡ true
 concat_keeps x parts more names sites is p h =
+    let forms = target_parts (map target_form parts) names in
     ap (list_all (λ (y : TypedTarget). is_kept_target y names sites)) p
-    ∙ second_of (is_width (parts_width (senses_in names parts))) (list_all (λ (y : TypedTarget). is_kept_target y names sites) parts) (concat_kept x parts names sites is h)
+    ∙ parts_kept names sites parts (second_of (is_width forms.width) forms.kept (concat_form x parts names sites is h)) (concat_sited x parts names sites is h)
 
 -- a value that is cut to the target's width
 pub cut_writes : (m : TargetSense) (w value bits : ℕ) (v : View) → w ≡ m.width → bits ≡ value % 2 ^ w → m.writes v bits ≡ writes_in m value v

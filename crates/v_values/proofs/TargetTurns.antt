@@ -1,11 +1,11 @@
 -- The turns of parts side by side.
-use Rattle.std.proofs.Common.{◌≡◌, ◌≤◌, ◌<◌, ◌+◌, ap, sym, subst, ◌∙◌, refl, arith, ℕ, ◌++◌, ◌-◌, ◌/◌, ◌%◌, append_assoc, length, get_or, drop, List, [], ◌∷◌, Bool, true, ◌&&◌}
+use Rattle.std.proofs.Common.{◌≡◌, ◌≤◌, ◌<◌, ◌+◌, ap, sym, subst, ◌∙◌, refl, arith, ℕ, ◌++◌, ◌-◌, ◌/◌, ◌%◌, append_assoc, length, get_or, drop, List, ◌∷◌, Bool, true, ◌&&◌}
 use Rattle.std.specs.Prelude.{◌^◌, nat_le}
 use Rattle.std.proofs.lemmas.List.{drop_all, append-nil}
 use Rattle.std.proofs.lemmas.List.Folds.{list_all-append}
 use Rattle.std.proofs.lemmas.Nat.{shr_below, mod_below, pow_pos}
 use Rattle.v_meaning.specs.Views.{View, Write}
-use Rattle.v_meaning.specs.Targets.{TargetSense, parts_width, parts_writes}
+use Rattle.v_meaning.specs.Targets.{parts_width, parts_writes}
 use Rattle.v_meaning.specs.declared.names.Kind.{Kind}
 use Rattle.v_meaning.specs.declared.names.Kind.TheVariants as k
 use Rattle.v_meaning.specs.declared.names.Entry.{Entry}
@@ -18,9 +18,9 @@ use Rattle.v_core.specs.Statements.{target_in}
 use Rattle.v_values.specs.Kept.{is_kept_target, senses_in}
 use Rattle.v_values.specs.Moments.{Shape}
 use Rattle.v_values.specs.Writes.{all_fit, write_fits}
-use Rattle.v_values.proofs.Tests.{first_of, second_of}
+use Rattle.v_values.proofs.Tests.{first_of}
 use Rattle.v_values.proofs.Chains.{next_is}
-use Rattle.v_values.proofs.TargetLaws.{part_keeps, SelectKept, select_keeps}
+use Rattle.v_values.proofs.TargetLaws.{part_keeps, select_keeps}
 
 pub word_of_part : (x : TypedTarget) (name at low w : ℕ) (names : List Entry) (sites : List ℕ) → x ≡ t.Part name at low w → is_kept_target x names sites ≡ true → is_width w ≡ true
 word_of_part x name at low w names sites is h = first_of (is_width w) (nat_le (low + w) (entry_at names name).width) (part_keeps x name at low w names sites is h)

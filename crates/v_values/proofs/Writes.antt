@@ -1,5 +1,5 @@
 -- The turns of writes one after another.
-use Rattle.std.proofs.Common.{◌≡◌, ◌≤◌, ◌<◌, ◌+◌, ap, sym, ◌∙◌, arith, ℕ, zero, suc, length, get_or, drop, drop-cons, add-one, List, [], ◌∷◌, map, Bool, true}
+use Rattle.std.proofs.Common.{◌≡◌, ◌≤◌, ◌<◌, ◌+◌, ap, sym, ◌∙◌, arith, ℕ, zero, suc, length, get_or, drop, drop-cons, add-one, List, [], ◌∷◌, Bool, true}
 use Rattle.std.specs.List.{list_all}
 use Rattle.std.proofs.lemmas.List.{drop_all}
 use Rattle.std.proofs.lemmas.List.Folds.{list_all-map}

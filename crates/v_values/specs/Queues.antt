@@ -15,16 +15,16 @@ abbrev pub total : List ℕ → ℕ
 total [] = 0
 total (n ∷ ns) = n + total ns
 
--- how many parts a target has; each is one write at most
-abbrev pub target_parts_step : TypedTarget-F ℕ → ℕ
-target_parts_step (t.Part name at low width) = 1
-target_parts_step (t.Select name at bits width signed index) = 1
-target_parts_step (t.Concat parts) = total parts
+-- how many writes a target makes at most: one for each part
+abbrev pub write_count_step : TypedTarget-F ℕ → ℕ
+write_count_step (t.Part name at low width) = 1
+write_count_step (t.Select name at bits width signed index) = 1
+write_count_step (t.Concat parts) = total parts
 
-abbrev pub target_parts : TypedTarget → ℕ
-target_parts = fold-TypedTarget ℕ target_parts_step
+abbrev pub write_count : TypedTarget → ℕ
+write_count = fold-TypedTarget ℕ write_count_step
 
--- how many all of several targets have
-abbrev pub all_parts : List TypedTarget → ℕ
-all_parts [] = 0
-all_parts (x ∷ xs) = target_parts x + all_parts xs
+-- how many all of several targets make
+abbrev pub write_counts : List TypedTarget → ℕ
+write_counts [] = 0
+write_counts (x ∷ xs) = write_count x + write_counts xs

@@ -4,7 +4,7 @@ ghost use Rattle.v_core.specs.Statements.{target_in};
 ghost use Rattle.v_core.specs.Statements as core;
 ghost use Rattle.v_values.specs.Kept.{is_kept_target};
 ghost use Rattle.v_values.specs.Moments.{fit};
-ghost use Rattle.v_values.specs.Queues.{target_parts};
+ghost use Rattle.v_values.specs.Queues.{write_count};
 ghost use Rattle.v_values.specs.Writes.{all_fit};
 
 use crate::moment::Moment;
@@ -19,10 +19,10 @@ use v_meaning::Entry;
 pub fn defer(target: &TypedTarget, value: u128, names: &[Entry], now: &Moment, queue: &mut Queue)
     requires kept { is_kept_target target.now names.now now.now.shape.sites ≡ true }
     requires fits { fit now.now.shape names.now ≡ true }
-    requires room { length queue.old.writes + target_parts target.now ≤ queue.old.room }
+    requires room { length queue.old.writes + write_count target.now ≤ queue.old.room }
     ensures writes { queue.new.writes ≡ queue.old.writes ++ core.writes_in (target_in target.now names.now) value now.now.view }
     ensures fit { all_fit now.now.shape (core.writes_in (target_in target.now names.now) value now.now.view) ≡ true }
-    ensures few { length queue.new.writes ≤ length queue.old.writes + target_parts target.now }
+    ensures few { length queue.new.writes ≤ length queue.old.writes + write_count target.now }
     ensures room { queue.new.room ≡ queue.old.room }
 {
     let width = target_width(target);
@@ -41,7 +41,7 @@ pub fn assign(
 )
     requires kept { is_kept_target target.now names.now now.old.shape.sites ≡ true }
     requires fits { fit now.old.shape names.now ≡ true }
-    requires room { length queue.old.writes + target_parts target.now ≤ queue.old.room }
+    requires room { length queue.old.writes + write_count target.now ≤ queue.old.room }
     ensures view { now.new.view ≡ applied now.old.view (core.writes_in (target_in target.now names.now) value now.old.view) }
     ensures shape { now.new.shape ≡ now.old.shape }
     ensures same { queue.new ≡ queue.old }

@@ -8,7 +8,7 @@ ghost use Rattle.v_core.specs.Formed.{is_width};
 ghost use Rattle.v_core.specs.Statements.{target_in};
 ghost use Rattle.v_values.specs.Kept.{is_kept_target, senses_in};
 ghost use Rattle.v_values.specs.Moments.{Shape, fit};
-ghost use Rattle.v_values.specs.Queues.{all_parts, target_parts};
+ghost use Rattle.v_values.specs.Queues.{write_counts, write_count};
 ghost use Rattle.v_values.specs.Writes.{all_fit, place_or};
 
 use crate::moment::Moment;
@@ -99,14 +99,20 @@ fn push_selected(queue: &mut Queue, known: Known, index: Option<u128>, value: u1
 
 /// Puts the writes of a value of as many bits as the target has behind a queue (9.2.2).
 #[cycle(queueing)]
-pub(crate) fn enqueue(target: &TypedTarget, bits: u128, names: &[Entry], now: &Moment, queue: &mut Queue)
+pub(crate) fn enqueue(
+    target: &TypedTarget,
+    bits: u128,
+    names: &[Entry],
+    now: &Moment,
+    queue: &mut Queue,
+)
     requires kept { is_kept_target target.now names.now now.now.shape.sites ≡ true }
     requires fits { fit now.now.shape names.now ≡ true }
     requires below { bits < 2 ^ (target_in target.now names.now).width }
-    requires room { length queue.old.writes + target_parts target.now ≤ queue.old.room }
+    requires room { length queue.old.writes + write_count target.now ≤ queue.old.room }
     ensures writes { queue.new.writes ≡ queue.old.writes ++ (target_in target.now names.now).writes now.now.view bits }
     ensures fit { all_fit now.now.shape ((target_in target.now names.now).writes now.now.view bits) ≡ true }
-    ensures few { length queue.new.writes ≤ length queue.old.writes + target_parts target.now }
+    ensures few { length queue.new.writes ≤ length queue.old.writes + write_count target.now }
     ensures room { queue.new.room ≡ queue.old.room }
 {
     match target {
@@ -152,10 +158,10 @@ fn enqueue_parts(
     requires width { width ≡ parts_width (senses_in names.now parts.now) }
     requires narrow { width ≤ 128 }
     requires below { bits < 2 ^ width }
-    requires room { length queue.old.writes + all_parts parts.now ≤ queue.old.room }
+    requires room { length queue.old.writes + write_counts parts.now ≤ queue.old.room }
     ensures writes { queue.new.writes ≡ queue.old.writes ++ parts_writes (senses_in names.now parts.now) now.now.view bits }
     ensures fit { all_fit now.now.shape (parts_writes (senses_in names.now parts.now) now.now.view bits) ≡ true }
-    ensures few { length queue.new.writes ≤ length queue.old.writes + all_parts parts.now }
+    ensures few { length queue.new.writes ≤ length queue.old.writes + write_counts parts.now }
     ensures room { queue.new.room ≡ queue.old.room }
 {
     let mut behind = width;

@@ -1,11 +1,11 @@
 use denote.Param.Weighed.{most, at_most}
-use Rattle.std.proofs.Common.{◌≡◌, ◌+◌, ap, sym, ◌∙◌, arith, drop, List}
-use Rattle.v_meaning.specs.Targets.{TargetSense, parts_width}
+use Rattle.std.proofs.Common.{ap, sym, ◌∙◌, arith}
+use Rattle.v_meaning.specs.Targets.{TargetSense}
 use Rattle.v_core.proofs.statement.TypedTarget.TheLaws.{the_size}
 use Rattle.v_core.specs.declared.statement.TypedTarget.{TypedTarget}
-use Rattle.v_values.specs.Kept.{is_kept_target, senses_in}
+use Rattle.v_values.specs.Kept.{is_kept_target}
 use Rattle.v_values.proofs.Chains.{one_of}
-use Rattle.v_values.proofs.TargetLaws.{parts_deeper, part_means, select_means, concat_target, part_keeps, select_keeps, concat_word, concat_narrow, concat_keeps}
+use Rattle.v_values.proofs.TargetLaws.{parts_deeper, part_means, select_means, concat_target, concat_word, concat_narrow, concat_keeps}
 use Rattle.v_values.proofs.TargetTurns.{word_of_part, word_of_select, width_next, width_last}
 use Rattle.v_values.proofs.targets.+measuring.Goals as goal
 

@@ -12,7 +12,7 @@ use Rattle.v_values.specs.Moments.{has_width}
 use Rattle.v_values.specs.Writes.{all_fit}
 use Rattle.v_values.proofs.Tests.{has_bit, within}
 use Rattle.v_values.proofs.Chains.{next_is, one_of}
-use Rattle.v_values.specs.Queues.{all_parts}
+use Rattle.v_values.specs.Queues.{write_counts}
 use Rattle.v_values.proofs.Counts.{concat_count}
 use Rattle.v_values.proofs.TargetLaws.{parts_deeper, concat_target, select_keeps, concat_keeps}
 use Rattle.v_values.proofs.TargetTurns.{part_bits, behind_next}
@@ -100,7 +100,7 @@ enqueue_parts-enqueue-requires t c =
           c.requires.fits,
           (
             part_bits c.args.names.now _ _ c.part-item.result _ _ _ _ _ _ _ _ _ _ _ next (c.target_width-width.ensures.width c.args.names.now) refl refl c.loop-part.invariant.behind,
-            omega (arith, ap all_parts next, c.loop-part.invariant.few, c.loop-part.invariant.room, c.requires.room),
+            omega (arith, ap write_counts next, c.loop-part.invariant.few, c.loop-part.invariant.room, c.requires.room),
           ),
         ),
       ),
@@ -112,7 +112,7 @@ enqueue_parts-loop-part-preserved t c =
     record {
       behind = behind_next c.args.names.now _ _ c.part-item.result _ _ _ _ _ _ _ _ _ _ _ _ _ next (c.target_width-width.ensures.width c.args.names.now) refl refl c.cut-left.ensures.value
           c.enqueue.ensures.writes c.enqueue.ensures.fit c.loop-part.invariant.behind;
-      few = omega (arith, ap all_parts next, c.loop-part.invariant.few, c.enqueue.ensures.few);
+      few = omega (arith, ap write_counts next, c.loop-part.invariant.few, c.enqueue.ensures.few);
       room = c.enqueue.ensures.room ∙ c.loop-part.invariant.room;
     }
 

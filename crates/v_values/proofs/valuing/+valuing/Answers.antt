@@ -3,14 +3,14 @@ use Rattle.std.proofs.Common.{◌≡◌, ◌<◌, ap, sym, subst, ◌∙◌, ref
 use Rattle.std.specs.Prelude.{◌^◌}
 use Rattle.v_core.specs.declared.typed.Link.{Link}
 use Rattle.v_core.specs.declared.typed.Typed.{Typed}
-use Rattle.v_core.specs.Formed.{Formed, formed, formed_parts, is_width, part_forms, selected_width}
+use Rattle.v_core.specs.Formed.{Formed, formed, formed_parts, is_width, part_forms}
 use Rattle.v_core.proofs.typed.Typed.TheLaws.{the_size}
 use Rattle.v_values.specs.Chains.{Begins}
 use Rattle.v_core.specs.Sited.{is_sited}
 use Rattle.v_values.proofs.Tests.{first_of, second_of, within}
 use Rattle.v_values.proofs.Depths.{link_size, part_size, first_deeper, links_deeper, parts_deeper, then_deeper, otherwise_deeper}
 use Rattle.v_values.proofs.TypedLaws.{chain_means, chain_form, sited_first, sited_links, concat_means, concat_form, sited_parts, then_has, otherwise_has, sited_then, sited_otherwise, kept_of, choice_word, free_below}
-use Rattle.v_values.proofs.Chains.{next_is, one_of, before_kept, operand_kept, operands_meet, follows_next, value_next, value_last, follows_last, follows_first}
+use Rattle.v_values.proofs.Chains.{next_is, one_of, before_kept, operand_kept, operands_meet, follows_next, value_next, value_last, follows_last}
 use Rattle.v_values.proofs.Parts.{part_kept, part_below, part_narrow, left_next, left_last}
 use Rattle.v_values.proofs.valuing.+valuing.Goals as goal
 

@@ -1,4 +1,4 @@
-use Rattle.v_values.proofs.Writes.{this_fits, applied_next, applied_last}
+use Rattle.v_values.proofs.Writes.{this_fits}
 use Rattle.v_values.proofs.writing.apply.Goals as goal
 
 pub write-requires : goal.write-requires

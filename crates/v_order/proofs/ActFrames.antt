@@ -38,7 +38,7 @@ use Rattle.v_order.proofs.Frames.{each_left, each_right, in_left, in_right, seen
 
 -- ---- acts
 
-looks_followed : (nets : List ℕ) (a b : Acts) → ActsLookOnlyAt nets a → ActsLookOnlyAt nets b → ActsLookOnlyAt nets (followed a b)
+pub looks_followed : (nets : List ℕ) (a b : Acts) → ActsLookOnlyAt nets a → ActsLookOnlyAt nets b → ActsLookOnlyAt nets (followed a b)
 looks_followed nets End b h k = k
 looks_followed nets (Branch g rest) b h k = (h.0, h.1, looks_followed nets rest b h.2 k)
 looks_followed nets (Blocking g rest) b h k = (h.0, looks_followed nets rest b h.1 k)

@@ -5,3 +5,5 @@ pub mod Declared
 pub mod ModuleOrder
 pub mod ActFrames
 pub mod OrderRows
+pub mod TextOrder
+pub mod SteadyRows

@@ -1,3 +1,4 @@
 pub mod Settling
 pub mod Reads
 pub mod Stepping
+pub mod Steady

@@ -1,14 +1,16 @@
-ghost use Rattle.std.specs.Prelude.{◌≡◌, [], ℕ, List, Bool};
+ghost use Rattle.std.specs.Prelude.{◌≡◌, [], ℕ, List, length, Bool};
 ghost use Rattle.v_syntax.specs.declared.expr.Expr.{Expr};
 ghost use Rattle.v_syntax.specs.declared.stmt.Stmt.{Stmt};
 ghost use Rattle.v_meaning.specs.declared.names.Entry.{Entry};
-ghost use Rattle.v_meaning.specs.Views.{View};
+ghost use Rattle.v_meaning.specs.Views.{Store, View};
 ghost use Rattle.v_meaning.specs.Senses.{assigned};
 ghost use Rattle.v_meaning.specs.Expressions.{sense_of};
 ghost use Rattle.v_meaning.specs.Statements.{acts_of};
-ghost use Rattle.v_meaning.specs.Designs.{Design, IsSettled};
+ghost use Rattle.v_meaning.specs.Designs.{Design, InTextOrder, IsOutcome, IsSettled, cycle_bits};
 ghost use Rattle.v_order.specs.Reads.{nets_read, nets_read_by};
 ghost use Rattle.v_order.specs.Settling.{ActsLookOnlyAt, LooksOnlyAt, Settles, settled_by, with_nets};
+ghost use Rattle.v_order.specs.Steady.{AtOnce, IsSteady};
+ghost use Rattle.v_order.specs.Stepping.{next_by, shown_by};
 
 /// Law: of all nets the value of an expression looks only at those that it reads, at every width and sign; and so do the
 /// acts of a statement.
@@ -24,4 +26,11 @@ pub fn reads_decide()
 pub fn nets_settle_in_one_way()
     ensures settled { (d : Design) (order : List ℕ) (v : View) → d.combinational ≡ [] → Settles d order → IsSettled d (with_nets v (settled_by d order v)) }
     ensures alone { (d : Design) (order : List ℕ) (v : View) (nets : List ℕ) → Settles d order → IsSettled d (with_nets v nets) → nets ≡ settled_by d order v }
+{}
+
+/// Law: in a steady design the nets need settle only once in a cycle. Where they are computed in the order, and each clocked
+/// process then takes all its steps with the nets as they are, one process after another, the cycle shows and leaves what
+/// it does under a complete schedule in text order, and under every such schedule (IEEE Std 1364-2005, 11.4).
+pub fn text_order_cycles()
+    ensures { (d : Design) (order : List ℕ) (b : AtOnce) (before : Store) (inputs : List ℕ) (choice : List Bool) → d.combinational ≡ [] → Settles d order → IsSteady d order b → length choice ≡ cycle_bits d → IsOutcome InTextOrder d before inputs choice (shown_by d order before inputs choice) (next_by d order before inputs choice) }
 {}

@@ -37,10 +37,10 @@ use Rattle.v_uses.specs.Seen.{AssignSeen, Seen, assign_seen, seen_of}
 use Rattle.v_depends.specs.Nodes.{is_in}
 use Rattle.v_depends.specs.Orders.{reads_target, AreBehind, IsOrder}
 use Rattle.v_order.specs.Reads.{nets_of_kind, nets_among}
-use Rattle.v_order.specs.Settling.{AgreeOn, LooksOnlyAt, IsOrdered, net_of, with_found, elements_at, Settles}
+use Rattle.v_order.specs.Settling.{IsOrdered, net_of, with_found, elements_at, Settles}
 use Rattle.v_order.proofs.Settled.{Each}
-use Rattle.v_order.proofs.Frames.{each_left, each_right, in_cases, assigned_frame}
-use Rattle.v_order.proofs.Numbering.{AreNumbered, In, last_counts, below_last, same_entry, numbered_entry, numbered_kind, names_numbered}
+use Rattle.v_order.proofs.Frames.{each_left, each_right, in_cases, ReadsSame, assigned_same, same_reads}
+use Rattle.v_order.proofs.Numbering.{Numbered, In, IsClocked, number_of, last_number, last_counts, below_last, same_entry, numbered_entry, settled_net, settled_numbered, names_clocked}
 use Rattle.v_order.proofs.Declared.{AreNew, entry_names, names_new, found_entry}
 
 -- ---- rules that are kept
@@ -118,10 +118,10 @@ net_number (k.Variable n) h = absurd (cc h)
 net_number (k.Memory n low count) h = absurd (cc h)
 
 module _ (names : List Entry) (sites : List ℕ) where
-  -- an assign is to the net of the target that was seen, and looks only at the nets that were read
+  -- an assign is to the net of the target that was seen, and has the same value where the names that were read have the same
   pub record IsMade (x : AssignUse) (a : Assign) : Type 0 where
     pub target : (entry_of names x.target.name).kind ≡ k.Net a.net
-    pub looks : LooksOnlyAt (nets_among names (reads_in x.reads)) a.value
+    pub same : (v w : View) → v.sites ≡ w.sites → Each (ReadsSame v w names) x.reads → a.value v ≡ a.value w
 
   abbrev AreMade : List AssignUse → List Assign → Type 0
   AreMade [] [] = ⊤
@@ -146,7 +146,7 @@ module _ (names : List Entry) (sites : List ℕ) where
   net_made name x h =
       let n = net_number (entry_of names name.name).kind h in
       subst (AreMade (record { target = name; reads = reads_of names x } ∷ [])) (sym (net_is name x n.0 n.1))
-      (record { target = n.1; looks = assigned_frame names sites x (entry_of names name.name).width }, tt)
+      (record { target = n.1; same = λ v w places h. assigned_same names sites x (entry_of names name.name).width v w places h }, tt)
 
   wire_made : (name : Ident) (x : Option Placed) → Each IsToNet (wire_use names name x) → AreMade (wire_use names name x) (wire_assign names sites name x)
   wire_made name None h = tt
@@ -311,23 +311,21 @@ both_or_neither : (a b : Bool) → (a ≡ true → b ≡ true) → (b ≡ true �
 both_or_neither true b to from = sym (to refl)
 both_or_neither false b to from = sym (false_from_ne_true b (λ h. absurd (cc (from h))))
 
-weaker : (nets more : List ℕ) (v w : View) → ((net : ℕ) → is_in net nets ≡ true → is_in net more ≡ true) → AgreeOn more v w → AgreeOn nets v w
-weaker nets more v w h a = record { inputs = a.inputs; store = a.store; sites = a.sites; words = λ net there. a.words net (h net there) }
-
-module _ (names : List Entry) (sites : List ℕ) (xs : List AssignUse) (gs : List Assign) (numbered : AreNumbered 0 names) (new : AreNew [] (entry_names names)) (made : AreMade names sites xs gs)
+module _ (names : List Entry) (sites : List ℕ) (xs : List AssignUse) (gs : List Assign) (numbered : Numbered is_settled 0 names) (clocked : Each IsClocked names) (new : AreNew [] (entry_names names)) (made : AreMade names sites xs gs)
     (once : assigned_again [] (targets_of xs) ≡ []) (all : never_assigned (ident_names (targets_of xs)) names ≡ []) where
   -- a name that settles is the target of an assign to its net
   maker : (name : List ℕ) (net : ℕ) → is_in net (nets_of_kind (entry_of names name).kind) ≡ true → (n : ℕ) × (x : AssignUse) × (a : Assign) × (slice_get xs n ≡ Some x) × (slice_get gs n ≡ Some a) × (x.target.name ≡ name) × (a.net ≡ net)
   maker name net h =
       let settles = settled_kind (entry_of names name).kind net h in
       let f = found_in names name settles in
-      let kind = numbered_kind 0 names (entry_of names name) numbered f.there settles in
-      let same : kind.0 ≡ net = one_in kind.0 net (sym (ap (λ (t : Kind). is_in net (nets_of_kind t)) kind.1) ∙ h) in
-      let among = assigned_entry (ident_names (targets_of xs)) names (entry_of names name) all f.there (ap is_net kind.1) in
+      let number : ℕ = number_of (entry_of names name).kind in
+      let kind : (entry_of names name).kind ≡ k.Net number = settled_net names (entry_of names name) clocked f.there settles in
+      let same : number ≡ net = one_in number net (sym (ap (λ (t : Kind). is_in net (nets_of_kind t)) kind) ∙ h) in
+      let among = assigned_entry (ident_names (targets_of xs)) names (entry_of names name) all f.there (ap is_net kind) in
       let t = target_at xs name (ap (λ l. is_among l (ident_names (targets_of xs))) (sym f.named) ∙ among) in
       let a = made_of names sites xs gs t.0 t.1 made t.2 in
-      let to : k.Net a.0.net ≡ k.Net kind.0 = sym a.2.target ∙ ap (λ l. (entry_of names l).kind) t.3 ∙ kind.1 in
-      (t.0, t.1, a.0, t.2, a.1, t.3, net_same a.0.net kind.0 to ∙ same)
+      let to : k.Net a.0.net ≡ k.Net number = sym a.2.target ∙ ap (λ l. (entry_of names l).kind) t.3 ∙ kind in
+      (t.0, t.1, a.0, t.2, a.1, t.3, net_same a.0.net number to ∙ same)
 
   -- assigns to the same net are the same
   same_number : (n l : ℕ) (a b : Assign) → slice_get gs n ≡ Some a → slice_get gs l ≡ Some b → a.net ≡ b.net → n ≡ l
@@ -337,7 +335,8 @@ module _ (names : List Entry) (sites : List ℕ) (xs : List AssignUse) (gs : Lis
       let kind : (entry_of names y.0.target.name).kind ≡ k.Net a.net = y.2.target ∙ ap (λ (t : ℕ). k.Net t) (sym same) in
       let f = found_in names x.0.target.name (ap is_settled x.2.target) in
       let g = found_in names y.0.target.name (ap is_settled kind) in
-      let e = same_entry 0 names (entry_of names x.0.target.name) (entry_of names y.0.target.name) a.net numbered f.there g.there x.2.target kind in
+      let e = same_entry is_settled 0 names (entry_of names x.0.target.name) (entry_of names y.0.target.name) numbered f.there g.there (ap is_settled x.2.target) (ap is_settled kind)
+      (ap number_of x.2.target ∙ sym (ap number_of kind)) in
       once_same [] xs n l x.0 y.0 once x.1 y.1 (sym f.named ∙ ap (λ (t : Entry). t.name) e ∙ g.named)
 
   -- these nets are those of the assigns of these numbers
@@ -391,11 +390,11 @@ module _ (names : List Entry) (sites : List ℕ) (xs : List AssignUse) (gs : Lis
         false_from_ne_true (is_in a.net nets) (λ there.
             let t = c.only a.net there in
             cc (ap (λ l. is_in l before) (same_number t.0 n t.1 a t.2 is t.4), t.3, out)),
-        λ v w agree. x.2.looks v w (weaker (nets_among names (reads_in x.0.reads)) nets v w (λ net there.
+        λ v w agree. x.2.same v w agree.sites (same_reads names nets v w agree x.0.reads (λ net there.
             let r = read_net names (reads_in x.0.reads) net there in
             let t = maker r.0 net r.2 in
             let reads : reads_target (assign_seen x.0) (assign_seen t.1) ≡ true = ap (λ l. is_among l (ident_names (reads_in x.0.reads))) t.5 ∙ r.1 in
-            ap (λ l. is_in l nets) (sym t.6) ∙ c.holds t.0 t.2 t.4 (behind (assign_seen x.0) t.0 (assign_seen t.1) (seen_at n x.0 x.1) (seen_at t.0 t.1 t.3) reads)) agree),
+            ap (λ l. is_in l nets) (sym t.6) ∙ c.holds t.0 t.2 t.4 (behind (assign_seen x.0) t.0 (assign_seen t.1) (seen_at n x.0 x.1) (seen_at t.0 t.1 t.3) reads))),
         rest (a.net ∷ nets) (covers_push before nets n a is c),
       )
 
@@ -411,12 +410,14 @@ module _ (names : List Entry) (sites : List ℕ) (xs : List AssignUse) (gs : Lis
       let t = map_in gs net there in
       let x = made_at names sites xs gs t.0 t.1 made t.2 in
       let f = found_in names x.0.target.name (ap is_settled x.2.target) in
-      let below = below_last 0 names (entry_of names x.0.target.name) t.1.net numbered f.there x.2.target in
-      lt-ltb net (count_of is_settled names) (subst (λ n. n < count_of is_settled names) t.3 (subst (λ n. t.1.net < n) (last_counts names) below)))
+      let below : t.1.net < last_number is_settled 0 names = subst (λ (kind : Kind). number_of kind < last_number is_settled 0 names) x.2.target
+      (below_last is_settled 0 names (entry_of names x.0.target.name) numbered f.there (ap is_settled x.2.target)) in
+      lt-ltb net (count_of is_settled names) (subst (λ n. n < count_of is_settled names) t.3 (subst (λ n. t.1.net < n) (last_counts is_settled names) below)))
       (λ below.
-      let e = numbered_entry 0 names net numbered (omega arith) (subst (λ n. net < n) (sym (last_counts names)) (ltb-true net (count_of is_settled names) below)) in
-      let own : (entry_of names e.0.name).kind ≡ k.Net net = ap (λ (o : Option Entry). (entry_or o).kind) (found_entry [] names e.0 new e.1) ∙ e.2 in
-      let t = maker e.0.name net (ap (λ (kind : Kind). is_in net (nets_of_kind kind)) own ∙ or_left (net == net) false (eq-eqb net net refl)) in
+      let e = numbered_entry is_settled 0 names net numbered (omega arith) (subst (λ n. net < n) (sym (last_counts is_settled names)) (ltb-true net (count_of is_settled names) below)) in
+      let own : (entry_of names e.entry.name).kind ≡ k.Net net =
+      ap (λ (o : Option Entry). (entry_or o).kind) (found_entry [] names e.entry new e.there) ∙ settled_net names e.entry clocked e.there e.passes ∙ ap (λ n. k.Net n) e.number in
+      let t = maker e.entry.name net (ap (λ (kind : Kind). is_in net (nets_of_kind kind)) own ∙ or_left (net == net) false (eq-eqb net net refl)) in
       ap (λ n. is_in n (map net_of gs)) (sym t.6) ∙ in_map gs t.0 t.2 t.4)
 
   seen_many : (ys : List AssignUse) → length (map assign_seen ys) ≡ length ys
@@ -443,7 +444,7 @@ module_settles m order kept clocked o =
     let again : List ℕ = assigned_again [] (assign_targets u) in
     let never : List ℕ = never_assigned (assigned_names u) names in
     let nets = to_nets names sites u.assigns (no_rest _ _ kept.targets) in
-    order_settles names sites u.assigns (design_of m).assigns (names_numbered m clocked) (names_new m kept.once) (items_made names sites m.items nets) (no_first again never kept.assigns) (no_rest again never kept.assigns)
+    order_settles names sites u.assigns (design_of m).assigns (settled_numbered m) (names_clocked m clocked) (names_new m kept.once) (items_made names sites m.items nets) (no_first again never kept.assigns) (no_rest again never kept.assigns)
     (design_of m) order refl refl o
 
 -- from the uses that were seen

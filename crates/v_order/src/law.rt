@@ -1,12 +1,15 @@
 ghost use Rattle.std.specs.Prelude.{◌≡◌, [], ℕ, List, length, Bool};
 ghost use Rattle.v_syntax.specs.declared.expr.Expr.{Expr};
 ghost use Rattle.v_syntax.specs.declared.stmt.Stmt.{Stmt};
+ghost use Rattle.v_syntax.specs.declared.module.Module.{Module};
 ghost use Rattle.v_meaning.specs.declared.names.Entry.{Entry};
 ghost use Rattle.v_meaning.specs.Views.{Store, View};
 ghost use Rattle.v_meaning.specs.Senses.{assigned};
 ghost use Rattle.v_meaning.specs.Expressions.{sense_of};
 ghost use Rattle.v_meaning.specs.Statements.{acts_of};
+ghost use Rattle.v_meaning.specs.Declarations.{names_of};
 ghost use Rattle.v_meaning.specs.Designs.{Design, InTextOrder, IsOutcome, IsSettled, cycle_bits};
+ghost use Rattle.v_order.specs.Numbered.{AreNumbered};
 ghost use Rattle.v_order.specs.Reads.{nets_read, nets_read_by};
 ghost use Rattle.v_order.specs.Settling.{ActsLookOnlyAt, LooksOnlyAt, Settles, settled_by, with_nets};
 ghost use Rattle.v_order.specs.Steady.{AtOnce, IsSteady};
@@ -33,4 +36,10 @@ pub fn nets_settle_in_one_way()
 /// it does under a complete schedule in text order, and under every such schedule (IEEE Std 1364-2005, 11.4).
 pub fn text_order_cycles()
     ensures { (d : Design) (order : List ℕ) (b : AtOnce) (before : Store) (inputs : List ℕ) (choice : List Bool) → d.combinational ≡ [] → Settles d order → IsSteady d order b → length choice ≡ cycle_bits d → IsOutcome InTextOrder d before inputs choice (shown_by d order before inputs choice) (next_by d order before inputs choice) }
+{}
+
+/// Law: the inputs, the nets with the combinational variables, the other variables, and the memories of a module are each
+/// numbered from 0 in the order of their declarations.
+pub fn names_are_numbered()
+    ensures { (m : Module) → AreNumbered [] (names_of m) }
 {}

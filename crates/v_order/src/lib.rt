@@ -9,5 +9,5 @@
 mod law;
 mod ordering;
 
-pub use law::{nets_settle_in_one_way, reads_decide, text_order_cycles};
+pub use law::{names_are_numbered, nets_settle_in_one_way, reads_decide, text_order_cycles};
 pub use ordering::order;

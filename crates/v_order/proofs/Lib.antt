@@ -7,3 +7,9 @@ pub mod ActFrames
 pub mod OrderRows
 pub mod TextOrder
 pub mod SteadyRows
+pub mod Statements
+pub mod BlockingWrites
+pub mod Depends
+pub mod Alike
+pub mod ModuleSteady
+pub mod NumberedRows

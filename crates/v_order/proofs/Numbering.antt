@@ -283,7 +283,7 @@ net_case (k.Combinational n) out passes = absurd (cc out)
 net_case (k.Variable n) out passes = absurd (cc passes)
 net_case (k.Memory n low count) out passes = absurd (cc passes)
 
-clocked_in : (es : List Entry) (e : Entry) → Each IsClocked es → In e es → is_settled_variable e.kind ≡ false
+pub clocked_in : (es : List Entry) (e : Entry) → Each IsClocked es → In e es → is_settled_variable e.kind ≡ false
 clocked_in [] e h there = absurd there
 clocked_in (x ∷ es) e h (inl same) = ap (λ (y : Entry). is_settled_variable y.kind) (sym same) ∙ h.0
 clocked_in (x ∷ es) e h (inr there) = clocked_in es e h.1 there

@@ -1,4 +1,4 @@
--- Cycles worked out by hand: the first process writes a variable at once, and the second one reads a net.
+-- Cycles worked out by hand: the first process writes a variable at once, and the second one reads it and a net.
 use Rattle.std.proofs.Common.{◌≡◌, ◌+◌, ℕ, zero, suc, List, [], ◌∷◌, None, false, refl, ap}
 use Rattle.std.specs.Prelude.{slice_index}
 use Rattle.v_meaning.specs.Views.{Store, Variable, Write}
@@ -11,7 +11,8 @@ use Rattle.v_order.specs.Steady.{AtOnce, AgreeBut, IsSteady, SettleAlike}
 abbrev word_to : ℕ → ℕ → List Write
 word_to k value = record { place = Variable k; low = 0; width = 8; value = value } ∷ []
 
--- variable 0 takes the input at once; variable 1 takes the net, behind the edge; the net is one more than this variable
+-- variable 0 takes the input at once; variable 1 takes the sum of the net and variable 0, behind the edge; the net is one
+-- more than this variable
 abbrev following : ℕ → Design
 following k = record {
   name = [];
@@ -22,7 +23,7 @@ following k = record {
   nets = 1;
   assigns = record { net = 0; value = λ v. slice_index v.store.variables k + 1 } ∷ [];
   combinational = [];
-  clocked = Blocking (λ v. word_to 0 (slice_index v.inputs 0)) End ∷ Nonblocking (λ v. word_to 1 (slice_index v.nets 0)) End ∷ [];
+  clocked = Blocking (λ v. word_to 0 (slice_index v.inputs 0)) End ∷ Nonblocking (λ v. word_to 1 (slice_index v.nets 0 + slice_index v.store.variables 0)) End ∷ [];
   firsts = [];
   sites = [];
 }
@@ -36,7 +37,7 @@ at_once = record { variables = 0 ∷ []; memories = [] }
 shows_net : shown_by (following 2) (0 ∷ []) before (5 ∷ []) [] ≡ 10 ∷ []
 shows_net = refl
 
-leaves_net : next_by (following 2) (0 ∷ []) before (5 ∷ []) [] ≡ record { variables = 5 ∷ 10 ∷ 9 ∷ []; memories = [] }
+leaves_net : next_by (following 2) (0 ∷ []) before (5 ∷ []) [] ≡ record { variables = 5 ∷ 15 ∷ 9 ∷ []; memories = [] }
 leaves_net = refl
 
 -- a net that follows variable 2 is the same, whatever variable 0 holds
@@ -52,7 +53,7 @@ is_steady = (
     record {
       writes = tt;
       nets = 0 ∷ [];
-      looks = (λ v w a. ap (word_to 1) (a.words 0 refl), tt);
+      looks = (λ v w a i. word_to 1 (a.words 0 refl i + slice_index (a.store i).variables 0), tt);
       alike = λ inputs sites s t a net there. net_case inputs sites s t a net;
     },
     tt,

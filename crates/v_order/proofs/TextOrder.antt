@@ -1,5 +1,5 @@
 -- In a steady design a cycle in text order is one in which the nets settle once and each clocked process takes all its steps.
-use Rattle.std.proofs.Common.{◌≡◌, ◌≢◌, ◌<◌, ◌≤◌, ◌+◌, ℕ, zero, suc, List, [], ◌∷◌, ◌++◌, length, get_or, Bool, true, false, Option, Some, None, refl, sym, ap, ◌∙◌, subst, arith, append_assoc, append-nil, length-append, le_refl}
+use Rattle.std.proofs.Common.{◌≡◌, ◌≢◌, ◌<◌, ◌≤◌, ℕ, zero, suc, List, [], ◌∷◌, ◌++◌, length, get_or, Bool, true, false, Option, Some, None, refl, sym, ap, ◌∙◌, subst, arith, append_assoc, append-nil, length-append, le_refl}
 use Rattle.std.specs.Prelude.{slice_get, slice_set, slice_index}
 use Rattle.v_meaning.specs.Views.{Store, View, no_view, Place, Net, Variable, Word, Write, with_bits, changed_at, written_at, applied}
 use Rattle.v_meaning.specs.Acts.{Acts, End, Branch, Blocking, Nonblocking, followed}

@@ -235,7 +235,7 @@ no_acts names sites (i.Always w.Any body ∷ items) h = absurd (cc h)
 abbrev sites_of : Module → List ℕ
 sites_of m = map (λ (s : Site). s.at) (module_sites (names_of m) m.items)
 
-no_combinational : (m : Module) → combinational_of (uses_of (names_of m) m) ≡ [] → (design_of m).combinational ≡ []
+pub no_combinational : (m : Module) → combinational_of (uses_of (names_of m) m) ≡ [] → (design_of m).combinational ≡ []
 no_combinational m clocked = no_acts (names_of m) (sites_of m) m.items clocked
 
 -- what is read through no net settles alike

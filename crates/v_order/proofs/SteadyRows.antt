@@ -40,6 +40,10 @@ shows_net = refl
 leaves_net : next_by (following 2) (0 ∷ []) before (5 ∷ []) [] ≡ record { variables = 5 ∷ 15 ∷ 9 ∷ []; memories = [] }
 leaves_net = refl
 
+-- a net that follows variable 0 stays 8 here, though it settles to 6 behind the first process
+leaves_old_net : next_by (following 0) (0 ∷ []) before (5 ∷ []) [] ≡ record { variables = 5 ∷ 13 ∷ 9 ∷ []; memories = [] }
+leaves_old_net = refl
+
 -- a net that follows variable 2 is the same, whatever variable 0 holds
 is_steady : IsSteady (following 2) (0 ∷ []) at_once
 is_steady = (

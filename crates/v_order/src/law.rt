@@ -44,9 +44,10 @@ pub fn text_order_cycles()
 
 /// Law: a module that breaks no rule and whose processes are all clocked is steady: its blocking assignments write certain
 /// variables and memories, and whatever these hold, the nets that its processes look at settle alike (IEEE Std 1364-2005,
-/// 9.2.1 and 11.6.1).
+/// 9.2.1 and 11.6.1). Where no process is combinational, none of the design is.
 pub fn processes_are_steady()
-    ensures { (m : Module) → first_fault (places_of m) typing_rules ≡ None → first_fault (places_of m) process_rules ≡ None → combinational_of (uses_of (names_of m) m) ≡ [] → (order : List ℕ) → Settles (design_of m) order → (b : AtOnce) × IsSteady (design_of m) order b }
+    ensures clocked { (m : Module) → combinational_of (uses_of (names_of m) m) ≡ [] → (design_of m).combinational ≡ [] }
+    ensures steady { (m : Module) → first_fault (places_of m) typing_rules ≡ None → first_fault (places_of m) process_rules ≡ None → combinational_of (uses_of (names_of m) m) ≡ [] → (order : List ℕ) → Settles (design_of m) order → (b : AtOnce) × IsSteady (design_of m) order b }
 {}
 
 /// Law: so a cycle of such a module in text order shows and leaves what it does where the nets are computed once, in the

@@ -5,11 +5,15 @@ pub mod Declared
 pub mod ModuleOrder
 pub mod ActFrames
 pub mod OrderRows
+pub mod Steps
 pub mod TextOrder
+pub mod AnyOrder
+pub mod ApartRows
 pub mod SteadyRows
 pub mod Statements
-pub mod BlockingWrites
+pub mod TargetWrites
 pub mod Depends
 pub mod Alike
+pub mod Names
 pub mod ModuleSteady
 pub mod NumberedRows

@@ -12,7 +12,8 @@ ghost use Rattle.v_meaning.specs.Declarations.{names_of};
 ghost use Rattle.v_meaning.specs.Modules.{design_of};
 ghost use Rattle.v_meaning.specs.ProcessRules.{combinational_of};
 ghost use Rattle.v_meaning.specs.Uses.{uses_of};
-ghost use Rattle.v_meaning.specs.Designs.{Design, InTextOrder, IsOutcome, IsSettled, cycle_bits};
+ghost use Rattle.v_meaning.specs.Designs.{Design, InAnyOrder, InTextOrder, IsOutcome, IsSettled, cycle_bits};
+ghost use Rattle.v_order.specs.Apart.{AreApart, Owners};
 ghost use Rattle.v_order.specs.Numbered.{AreNumbered};
 ghost use Rattle.v_order.specs.Reads.{nets_read, nets_read_by};
 ghost use Rattle.v_order.specs.Settling.{ActsLookOnlyAt, LooksOnlyAt, Settles, settled_by, with_nets};
@@ -40,6 +41,13 @@ pub fn nets_settle_in_one_way()
 /// the cycle does under some complete schedule in text order, and under every such schedule (IEEE Std 1364-2005, 11.4).
 pub fn text_order_cycles()
     ensures { (d : Design) (order : List ℕ) (b : AtOnce) (before : Store) (inputs : List ℕ) (choice : List Bool) → d.combinational ≡ [] → Settles d order → IsSteady d order b → length choice ≡ cycle_bits d → IsOutcome InTextOrder d before inputs choice (shown_by d order before inputs choice) (next_by d order before inputs choice) }
+{}
+
+/// Law: so does the cycle under every schedule, where besides each variable and each memory belongs to one clocked process:
+/// no other one writes it, and none looks at it where it is written at once. In whatever order the processes take their
+/// steps, the cycle shows and leaves the same (IEEE Std 1364-2005, 11.4.2).
+pub fn any_order_cycles()
+    ensures { (d : Design) (order : List ℕ) (b : AtOnce) (o : Owners) (before : Store) (inputs : List ℕ) (choice : List Bool) → d.combinational ≡ [] → Settles d order → IsSteady d order b → AreApart d b o → length choice ≡ cycle_bits d → IsOutcome InAnyOrder d before inputs choice (shown_by d order before inputs choice) (next_by d order before inputs choice) }
 {}
 
 /// Law: a module that breaks no rule and whose processes are all clocked is steady: its blocking assignments write certain

@@ -15,5 +15,7 @@ pub mod TargetWrites
 pub mod Depends
 pub mod Alike
 pub mod Names
+pub mod Machines
 pub mod ModuleSteady
+pub mod ModuleApart
 pub mod NumberedRows

@@ -66,7 +66,7 @@ settles_kind (k.Variable n) h = absurd (cc h)
 settles_kind (k.Memory n low count) h = absurd (cc h)
 
 module _ (names : List Entry) where
-  abbrev at_once : List (List ℕ) → AtOnce
+  abbrev pub at_once : List (List ℕ) → AtOnce
   at_once ons = record { variables = numbers_among names is_variable ons; memories = numbers_among names is_memory ons }
 
   may_kind : Each IsClocked names → (ons : List (List ℕ)) (z : List ℕ) → is_among z ons ≡ true → (kind : Kind) → kind_of names z ≡ kind → MayBeWritten (IsWritten (at_once ons)) kind
@@ -80,7 +80,7 @@ module _ (names : List Entry) where
   may_kind clocked ons z there (k.Memory n low count) is =
       λ i. subst (λ (kind : Kind). is_in (number_of kind) (numbers_among names is_memory ons) ≡ true) is (number_there names is_memory ons z there (ap is_memory is))
 
-  out_kind : Numbered is_variable 0 names → Numbered is_memory 0 names → (ons : List (List ℕ)) (z : List ℕ) → is_among z ons ≡ false → (kind : Kind) → kind_of names z ≡ kind → IsOut (at_once ons) kind
+  pub out_kind : Numbered is_variable 0 names → Numbered is_memory 0 names → (ons : List (List ℕ)) (z : List ℕ) → is_among z ons ≡ false → (kind : Kind) → kind_of names z ≡ kind → IsOut (at_once ons) kind
   out_kind variables memories ons z out (k.Parameter value) is = tt
   out_kind variables memories ons z out k.Clock is = tt
   out_kind variables memories ons z out (k.Input n) is = tt
@@ -153,7 +153,7 @@ no_acts names sites (i.Always w.Any body ∷ items) h = absurd (cc h)
 
 -- ---- modules
 
-abbrev sites_of : Module → List ℕ
+abbrev pub sites_of : Module → List ℕ
 sites_of m = map (λ (s : Site). s.at) (module_sites (names_of m) m.items)
 
 pub no_combinational : (m : Module) → combinational_of (uses_of (names_of m) m) ≡ [] → (design_of m).combinational ≡ []
@@ -231,7 +231,7 @@ module _ (m : Module) (kept : Keeps m) (only : combinational_of (uses_of (names_
     alike = settle_alike body none;
   }
 
-  all_steady : IsSteady (design_of m) order b
+  pub all_steady : IsSteady (design_of m) order b
   all_steady =
       let may : (z : List ℕ) → is_among z ons ≡ true → MayBeWritten (IsWritten b) (entry_of names z).kind = λ z there. may_kind names clocked ons z there (entry_of names z).kind refl in
       are_steady (design_of m) order b 0 (design_of m).clocked

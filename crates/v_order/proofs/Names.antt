@@ -51,6 +51,16 @@ pub among_right : (z : List ℕ) (xs ys : List (List ℕ)) → is_among z ys ≡
 among_right z [] ys h = h
 among_right z (x ∷ xs) ys h = or_right (bytes_eq x z) (is_among z (xs ++ ys)) (among_right z xs ys h)
 
+pub among_cases : (z : List ℕ) (xs ys : List (List ℕ)) → is_among z (xs ++ ys) ≡ true → (is_among z xs ≡ true) ⊎ (is_among z ys ≡ true)
+among_cases z [] ys h = inr h
+among_cases z (x ∷ xs) ys h = elim (or_cases (bytes_eq x z) (is_among z (xs ++ ys)) h) [
+  | inl same ↦ inl (or_left (bytes_eq x z) (is_among z xs) same)
+  | inr there ↦ (elim (among_cases z xs ys there) [
+    | inl front ↦ inl (or_right (bytes_eq x z) (is_among z xs) front)
+    | inr behind ↦ inr behind
+  ])
+]
+
 -- ---- the numbers of names
 
 abbrev number_if : Bool → ℕ → List ℕ → List ℕ

@@ -1,4 +1,5 @@
 ghost use Rattle.std.specs.Prelude.{◌≡◌, [], ℕ, List, length, Bool, None};
+ghost use Rattle.lz_machine.specs.Machine.{Realises};
 ghost use Rattle.v_syntax.specs.declared.expr.Expr.{Expr};
 ghost use Rattle.v_syntax.specs.declared.stmt.Stmt.{Stmt};
 ghost use Rattle.v_syntax.specs.declared.module.Module.{Module};
@@ -9,7 +10,7 @@ ghost use Rattle.v_meaning.specs.Expressions.{sense_of};
 ghost use Rattle.v_meaning.specs.Statements.{acts_of};
 ghost use Rattle.v_meaning.specs.Broken.{places_of, first_fault, process_rules, typing_rules};
 ghost use Rattle.v_meaning.specs.Declarations.{names_of};
-ghost use Rattle.v_meaning.specs.Modules.{design_of};
+ghost use Rattle.v_meaning.specs.Modules.{design_of, module_machine};
 ghost use Rattle.v_meaning.specs.ProcessRules.{combinational_of};
 ghost use Rattle.v_meaning.specs.Uses.{uses_of};
 ghost use Rattle.v_meaning.specs.Designs.{Design, InAnyOrder, InTextOrder, IsOutcome, IsSettled, cycle_bits};
@@ -62,6 +63,22 @@ pub fn processes_are_steady()
 /// order, and each clocked process then takes all its steps with the nets as they are, one process after another.
 pub fn modules_cycle_in_text_order()
     ensures { (m : Module) → first_fault (places_of m) typing_rules ≡ None → first_fault (places_of m) process_rules ≡ None → combinational_of (uses_of (names_of m) m) ≡ [] → (order : List ℕ) → Settles (design_of m) order → (before : Store) (inputs : List ℕ) (choice : List Bool) → length choice ≡ cycle_bits (design_of m) → IsOutcome InTextOrder (design_of m) before inputs choice (shown_by (design_of m) order before inputs choice) (next_by (design_of m) order before inputs choice) }
+{}
+
+/// Law: the processes of such a module are apart besides: no variable and no memory is written by two of them, and none looks
+/// at what another one writes at once (IEEE Std 1364-2005, 9.2.1).
+pub fn processes_are_apart()
+    ensures { (m : Module) → first_fault (places_of m) typing_rules ≡ None → first_fault (places_of m) process_rules ≡ None → combinational_of (uses_of (names_of m) m) ≡ [] → (order : List ℕ) → Settles (design_of m) order → (b : AtOnce) × (o : Owners) × IsSteady (design_of m) order b × AreApart (design_of m) b o }
+{}
+
+/// Law: so every schedule of such a module does the same. Some schedule is complete, and in whatever order the processes take
+/// their steps, each complete one shows and leaves what the cycle does in text order (IEEE Std 1364-2005, 11.4.2). The
+/// machine under every schedule and the one in text order do what the other one does: what realises the one realises the
+/// other.
+pub fn every_schedule_does_the_same()
+    ensures outcome { (m : Module) → first_fault (places_of m) typing_rules ≡ None → first_fault (places_of m) process_rules ≡ None → combinational_of (uses_of (names_of m) m) ≡ [] → (order : List ℕ) → Settles (design_of m) order → (before : Store) (inputs : List ℕ) (choice : List Bool) → length choice ≡ cycle_bits (design_of m) → IsOutcome InAnyOrder (design_of m) before inputs choice (shown_by (design_of m) order before inputs choice) (next_by (design_of m) order before inputs choice) }
+    ensures any { (m : Module) → first_fault (places_of m) typing_rules ≡ None → first_fault (places_of m) process_rules ≡ None → combinational_of (uses_of (names_of m) m) ≡ [] → (order : List ℕ) → Settles (design_of m) order → Realises (module_machine InAnyOrder m) (module_machine InTextOrder m) }
+    ensures text { (m : Module) → first_fault (places_of m) typing_rules ≡ None → first_fault (places_of m) process_rules ≡ None → combinational_of (uses_of (names_of m) m) ≡ [] → (order : List ℕ) → Settles (design_of m) order → Realises (module_machine InTextOrder m) (module_machine InAnyOrder m) }
 {}
 
 /// Law: the inputs, the nets with the combinational variables, the other variables, and the memories of a module are each

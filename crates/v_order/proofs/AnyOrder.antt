@@ -1,13 +1,13 @@
 -- Where processes are apart, steps of two of them change places, so that every schedule does what text order does.
-use Rattle.std.proofs.Common.{◌≡◌, ◌≢◌, ◌⊎◌, ◌+◌, ℕ, zero, suc, List, [], ◌∷◌, ◌++◌, length, get_or, Option, Some, None, refl, sym, ap, ◌∙◌, subst, inl, inr, arith}
-use Rattle.std.specs.Prelude.{⊤, slice_get, slice_set, slice_index, Bool, true, false}
+use Rattle.std.proofs.Common.{◌≡◌, ◌≢◌, ◌⊎◌, ◌+◌, ℕ, zero, suc, List, [], ◌∷◌, ◌++◌, length, Some, refl, sym, ap, ◌∙◌, subst, inl, inr, arith}
+use Rattle.std.specs.Prelude.{slice_get, slice_set, Bool, true, false}
 use Rattle.v_meaning.specs.Views.{Store, View, no_view, Place, Net, Variable, Word, Write, with_bits, changed_at, written_at, applied}
 use Rattle.v_meaning.specs.Acts.{Acts, End, Branch, Blocking, Nonblocking, followed}
-use Rattle.v_meaning.specs.Designs.{Design, words_from, cycle_bits, IsSettled, Edge, stored, view_over, IsAlong, AreEnded, started, InTextOrder, InAnyOrder, IsOutcome}
+use Rattle.v_meaning.specs.Designs.{Design, words_from, cycle_bits, Edge, stored, view_over, IsAlong, AreEnded, started, InAnyOrder, IsOutcome}
 use Rattle.v_depends.specs.Nodes.{is_in}
-use Rattle.v_order.specs.Settling.{Settles, Respects, ActsRespect}
-use Rattle.v_order.specs.Stepping.{Stepping, finished, all_finished, view_by, shown_by, next_of, next_by}
-use Rattle.v_order.specs.Steady.{AtOnce, is_written, AreTo, WritesTo, IsWritten, WritesOnlyIn, AreSteadyIn, IsSteadyIn, IsSteady}
+use Rattle.v_order.specs.Settling.{Settles, ActsRespect}
+use Rattle.v_order.specs.Stepping.{Stepping, finished, all_finished, shown_by, next_of, next_by}
+use Rattle.v_order.specs.Steady.{AtOnce, is_written, AreTo, WritesTo, IsWritten, WritesOnlyIn, AreSteadyIn, IsSteady}
 use Rattle.v_order.specs.Apart.{Owners, IsOwn, AgreeFor, IsApartIn, AreApartFrom, AreApart}
 use Rattle.v_order.proofs.Settled.{Each}
 use Rattle.v_order.proofs.ActFrames.{respects_followed}

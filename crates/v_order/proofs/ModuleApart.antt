@@ -1,7 +1,7 @@
 -- The processes of a module that breaks no rule and whose processes are all clocked are apart, so that every schedule does
 -- the same: each variable and each memory has one process that writes it (P3), and what that one writes at once is read in
 -- no other (P5).
-use Rattle.std.proofs.Common.{◌≡◌, ◌⊎◌, ◌+◌, ℕ, zero, suc, List, [], ◌∷◌, ◌++◌, length, length-append, map, flat_map, filter, get_or, Bool, true, false, not, None, refl, sym, ap, ◌∙◌, subst, inl, inr, append_assoc, append-nil, arith}
+use Rattle.std.proofs.Common.{◌≡◌, ◌⊎◌, ◌+◌, ℕ, zero, suc, List, [], ◌∷◌, ◌++◌, length, length-append, map, flat_map, filter, Bool, true, false, not, None, refl, sym, ap, ◌∙◌, subst, inl, inr, append_assoc, append-nil, arith}
 use Rattle.std.specs.Prelude.{⊤, bytes_eq, slice_index}
 use Rattle.std.proofs.lemmas.Bool.{or_cases, or_left, or_right, false_from_ne_true}
 use Rattle.std.proofs.lemmas.List.Concat.{flat_map-append}
@@ -17,7 +17,6 @@ use Rattle.v_meaning.specs.Views.{Store, View}
 use Rattle.v_meaning.specs.declared.names.Kind.{Kind}
 use Rattle.v_meaning.specs.declared.names.Kind.TheVariants as k
 use Rattle.v_meaning.specs.declared.names.Entry.{Entry}
-use Rattle.v_meaning.specs.Names.{entry_of}
 use Rattle.v_meaning.specs.Declarations.{is_variable, is_memory, names_of}
 use Rattle.v_meaning.specs.Designs.{cycle_bits, InTextOrder, InAnyOrder, IsOutcome}
 use Rattle.v_meaning.specs.Modules.{design_of, module_machine}

@@ -1,7 +1,7 @@
 -- A module that breaks no rule and whose processes are all clocked is steady.
-use Rattle.std.proofs.Common.{◌≡◌, ◌≤◌, ◌⊎◌, ℕ, suc, List, [], ◌∷◌, ◌++◌, length, length-append, map, flat_map, filter, replicate, Bool, true, false, not, None, refl, sym, ap, ◌∙◌, subst, inl, inr, arith}
+use Rattle.std.proofs.Common.{◌≡◌, ◌≤◌, ℕ, suc, List, [], ◌∷◌, length, length-append, map, flat_map, filter, replicate, Bool, true, false, not, None, refl, ap, subst, inl, inr, arith}
 use Rattle.std.specs.Prelude.{◌==◌, bytes_eq}
-use Rattle.std.proofs.lemmas.Bool.{or_cases, or_left, or_right, eqb-true, eq-eqb, false_from_ne_true}
+use Rattle.std.proofs.lemmas.Bool.{or_cases, or_left, or_right, eqb-true, false_from_ne_true}
 use Rattle.std.proofs.lemmas.List.{length-map}
 use Rattle.lz_base.specs.Names.{is_among}
 use Rattle.v_syntax.specs.declared.token.Ident.{Ident}
@@ -21,10 +21,9 @@ use Rattle.v_meaning.specs.Sites.{Site, module_sites}
 use Rattle.v_meaning.specs.Statements.{acts_of}
 use Rattle.v_meaning.specs.Acts.{Acts}
 use Rattle.v_meaning.specs.Designs.{Assign, Design, view_over, cycle_bits, InTextOrder, IsOutcome}
-use Rattle.v_meaning.specs.Modules.{item_clocked, item_combinational, design_of}
+use Rattle.v_meaning.specs.Modules.{item_combinational, design_of}
 use Rattle.v_meaning.specs.Uses.{Access, Read, Write, ProcessUse, Uses, use_of, item_process_uses, uses_of}
-use Rattle.v_meaning.specs.ProcessRules.{Written, reads_in, writes_in, reads_of_process, is_clocked, clocked_of, combinational_of, is_blocking, blocking_names, all_blocking, places_if, ident_names, Dependence, dependences, depends, follows_blocking, is_settled_variable, settled_by as settled_names, outside_reads}
-use Rattle.v_meaning.specs.MarkRules.{place_if}
+use Rattle.v_meaning.specs.ProcessRules.{Written, reads_in, writes_in, reads_of_process, is_clocked, clocked_of, combinational_of, is_blocking, blocking_names, all_blocking, places_if, Dependence, dependences, depends, follows_blocking, is_settled_variable, settled_by as settled_names, outside_reads}
 use Rattle.v_meaning.specs.Broken.{places_of, first_fault, typing_rules, process_rules}
 use Rattle.v_depends.specs.Nodes.{is_in}
 use Rattle.v_order.specs.Reads.{nets_of_kind, nets_read_by}
@@ -35,8 +34,8 @@ use Rattle.v_order.specs.Steady.{AtOnce, IsWritten, IsAny, SettleAlike, IsSteady
 use Rattle.v_order.proofs.Settled.{Each, HasNet, net_there, all_elements, all_by_number}
 use Rattle.v_order.proofs.ActFrames.{acts_frame}
 use Rattle.v_order.proofs.TargetWrites.{MayBeWritten, WritesIn, writes_only}
-use Rattle.v_order.proofs.Numbering.{Numbered, IsClocked, number_of, same_entry, clocked_in, settled_numbered, variables_numbered, memories_numbered, names_clocked}
-use Rattle.v_order.proofs.ModuleOrder.{Keeps, keeps, no_first, no_rest, not_in, same_bytes, self_bytes, found_in, read_net, AreMade, made_at, as_many, to_nets, items_made}
+use Rattle.v_order.proofs.Numbering.{Numbered, IsClocked, number_of, clocked_in, settled_numbered, variables_numbered, memories_numbered, names_clocked}
+use Rattle.v_order.proofs.ModuleOrder.{Keeps, keeps, no_rest, self_bytes, found_in, read_net, AreMade, made_at, as_many, to_nets, items_made}
 use Rattle.v_order.proofs.Depends.{none_of, Clean, clean_less, dependence_of, no_more}
 use Rattle.v_order.proofs.TextOrder.{text_order}
 use Rattle.v_order.proofs.Alike.{IsOut, not_combinational, Alike, HasUse, all_alike}

@@ -1,42 +1,28 @@
 -- Names among others, the numbers of names, and what holds of the processes of a module by their numbers.
-use Rattle.std.proofs.Common.{◌≡◌, ◌≤◌, ◌⊎◌, ℕ, suc, List, [], ◌∷◌, ◌++◌, length, length-append, map, flat_map, filter, replicate, Bool, true, false, not, None, refl, sym, ap, ◌∙◌, subst, inl, inr, arith}
+use Rattle.std.proofs.Common.{◌≡◌, ◌⊎◌, ℕ, suc, List, [], ◌∷◌, ◌++◌, flat_map, filter, Bool, true, false, refl, sym, ap, ◌∙◌, subst, inl, inr}
 use Rattle.std.specs.Prelude.{◌==◌, bytes_eq}
 use Rattle.std.proofs.lemmas.Bool.{or_cases, or_left, or_right, eqb-true, eq-eqb, false_from_ne_true}
-use Rattle.std.proofs.lemmas.List.{length-map}
 use Rattle.lz_base.specs.Names.{is_among}
 use Rattle.v_syntax.specs.declared.token.Ident.{Ident}
-use Rattle.v_syntax.specs.declared.stmt.AssignKind.TheVariants as a
 use Rattle.v_syntax.specs.declared.stmt.Stmt.{Stmt}
 use Rattle.v_syntax.specs.declared.module.Event.{Event}
 use Rattle.v_syntax.specs.declared.module.Event.TheVariants as w
 use Rattle.v_syntax.specs.declared.module.Item.{Item}
 use Rattle.v_syntax.specs.declared.module.Item.TheVariants as i
-use Rattle.v_syntax.specs.declared.module.Module.{Module}
-use Rattle.v_meaning.specs.Views.{Store, View}
 use Rattle.v_meaning.specs.declared.names.Kind.{Kind}
 use Rattle.v_meaning.specs.declared.names.Kind.TheVariants as k
 use Rattle.v_meaning.specs.declared.names.Entry.{Entry}
 use Rattle.v_meaning.specs.Names.{entry_of}
-use Rattle.v_meaning.specs.Declarations.{is_settled, is_variable, is_memory, names_of}
-use Rattle.v_meaning.specs.Sites.{Site, module_sites}
 use Rattle.v_meaning.specs.Statements.{acts_of}
 use Rattle.v_meaning.specs.Acts.{Acts}
-use Rattle.v_meaning.specs.Designs.{Assign, Design, view_over, cycle_bits, InTextOrder, IsOutcome}
-use Rattle.v_meaning.specs.Modules.{item_clocked, item_combinational, design_of}
-use Rattle.v_meaning.specs.Uses.{Access, Read, Write, ProcessUse, Uses, use_of, item_process_uses, uses_of}
-use Rattle.v_meaning.specs.ProcessRules.{Written, reads_in, writes_in, reads_of_process, is_clocked, clocked_of, combinational_of, is_blocking, blocking_names, all_blocking, places_if, ident_names, Dependence, dependences, depends, follows_blocking, is_settled_variable, settled_by as settled_names, outside_reads}
+use Rattle.v_meaning.specs.Modules.{item_clocked}
+use Rattle.v_meaning.specs.Uses.{ProcessUse, use_of, item_process_uses}
+use Rattle.v_meaning.specs.ProcessRules.{is_clocked, places_if, ident_names}
 use Rattle.v_meaning.specs.MarkRules.{place_if}
-use Rattle.v_meaning.specs.Broken.{places_of, first_fault, typing_rules, process_rules}
 use Rattle.v_depends.specs.Nodes.{is_in}
-use Rattle.v_order.specs.Reads.{nets_of_kind, nets_read_by}
-use Rattle.v_order.specs.Settling.{Settles, net_of, elements_at, with_nets, all_computed}
-use Rattle.v_order.specs.Stepping.{shown_by, next_by}
 use Rattle.v_order.specs.Apart.{EachFrom}
-use Rattle.v_order.specs.Steady.{AtOnce, SettleAlike, IsSteadyIn, AreSteadyIn, IsSteady}
-use Rattle.v_order.proofs.Settled.{Each, HasNet, net_there, all_elements, all_by_number}
-use Rattle.v_order.proofs.Numbering.{Numbered, IsClocked, number_of, same_entry, clocked_in, settled_numbered, variables_numbered, memories_numbered, names_clocked}
-use Rattle.v_order.proofs.ModuleOrder.{Keeps, keeps, no_first, no_rest, not_in, same_bytes, self_bytes, found_in, read_net, AreMade, made_at, as_many, to_nets, items_made}
-use Rattle.v_order.proofs.Depends.{none_of, Clean, clean_less, dependence_of, no_more}
+use Rattle.v_order.proofs.Numbering.{Numbered, number_of, same_entry}
+use Rattle.v_order.proofs.ModuleOrder.{no_first, no_rest, not_in, same_bytes, self_bytes, found_in}
 
 -- ---- names among others
 

@@ -1,13 +1,13 @@
 -- What a step of a process does in a steady design, where the nets are looked at as they were before the edge.
-use Rattle.std.proofs.Common.{◌≡◌, ◌≢◌, ◌<◌, ◌≤◌, ℕ, zero, suc, List, [], ◌∷◌, ◌++◌, length, get_or, Bool, true, false, Option, Some, None, refl, sym, ap, ◌∙◌, subst, arith, append_assoc, append-nil, length-append, le_refl}
+use Rattle.std.proofs.Common.{◌≡◌, ◌≢◌, ℕ, zero, suc, List, [], ◌∷◌, ◌++◌, get_or, true, false, Option, Some, None, refl, sym, ap, ◌∙◌, subst}
 use Rattle.std.specs.Prelude.{slice_get, slice_set, slice_index}
 use Rattle.v_meaning.specs.Views.{Store, View, no_view, Place, Net, Variable, Word, Write, with_bits, changed_at, written_at, applied}
 use Rattle.v_meaning.specs.Acts.{Acts, End, Branch, Blocking, Nonblocking, followed}
-use Rattle.v_meaning.specs.Designs.{Design, words_from, cycle_bits, IsSettled, Edge, stored, stepped, view_over, IsAlong, AreEnded, started, AscendFrom, InTextOrder, IsOutcome}
+use Rattle.v_meaning.specs.Designs.{Design, IsSettled, Edge, stored, stepped, view_over, AreEnded}
 use Rattle.v_depends.specs.Nodes.{is_in}
 use Rattle.v_order.specs.Settling.{AgreeOn, Settles}
-use Rattle.v_order.specs.Stepping.{Stepping, finished, all_finished, view_by, shown_by, next_of, next_by}
-use Rattle.v_order.specs.Steady.{AtOnce, is_written, AreTo, WritesTo, IsWritten, IsAny, AgreeBut, SettleAlike, IsSteadyIn, AreSteadyIn, IsSteady}
+use Rattle.v_order.specs.Stepping.{Stepping, finished, all_finished, view_by}
+use Rattle.v_order.specs.Steady.{AtOnce, is_written, AreTo, WritesTo, IsWritten, IsAny, AgreeBut, SettleAlike, IsSteadyIn, AreSteadyIn}
 use Rattle.v_order.proofs.Settled.{settled, alone}
 use Rattle.v_order.proofs.ActFrames.{respects_followed}
 

@@ -1,5 +1,5 @@
 -- The assignments of a statement write only the variables and memories that their targets name.
-use Rattle.std.proofs.Common.{◌≡◌, ℕ, List, [], ◌∷◌, ◌++◌, map, flat_map, true, Option, None, Some, sym, ap, subst}
+use Rattle.std.proofs.Common.{ℕ, List, [], ◌∷◌, ◌++◌, map, flat_map, Option, None, Some, sym, ap, subst}
 use Rattle.std.specs.Prelude.{⊤, ◌/◌, ◌%◌, ◌^◌, ◌==◌}
 use Rattle.v_syntax.specs.declared.expr.Expr.{Expr}
 use Rattle.v_syntax.specs.declared.stmt.Target.{Target}

@@ -1,14 +1,12 @@
 -- In a steady design a cycle in text order is one in which the nets settle once and each clocked process takes all its steps.
-use Rattle.std.proofs.Common.{◌≡◌, ◌≢◌, ◌<◌, ◌≤◌, ℕ, zero, suc, List, [], ◌∷◌, ◌++◌, length, get_or, Bool, true, false, Option, Some, None, refl, sym, ap, ◌∙◌, subst, arith, append_assoc, append-nil, length-append, le_refl}
-use Rattle.std.specs.Prelude.{slice_get, slice_set, slice_index}
-use Rattle.v_meaning.specs.Views.{Store, View, no_view, Place, Net, Variable, Word, Write, with_bits, changed_at, written_at, applied}
+use Rattle.std.proofs.Common.{◌≡◌, ◌≢◌, ◌<◌, ◌≤◌, ℕ, zero, suc, List, [], ◌∷◌, ◌++◌, length, Bool, Option, Some, None, refl, sym, ap, ◌∙◌, subst, arith, append_assoc, append-nil, length-append, le_refl}
+use Rattle.std.specs.Prelude.{slice_get, slice_set}
+use Rattle.v_meaning.specs.Views.{Store, View, Write}
 use Rattle.v_meaning.specs.Acts.{Acts, End, Branch, Blocking, Nonblocking, followed}
-use Rattle.v_meaning.specs.Designs.{Design, words_from, cycle_bits, IsSettled, Edge, stored, stepped, view_over, IsAlong, AreEnded, started, AscendFrom, InTextOrder, IsOutcome}
-use Rattle.v_depends.specs.Nodes.{is_in}
-use Rattle.v_order.specs.Settling.{AgreeOn, Settles}
+use Rattle.v_meaning.specs.Designs.{Design, words_from, cycle_bits, Edge, stored, stepped, view_over, IsAlong, AreEnded, started, AscendFrom, InTextOrder, IsOutcome}
+use Rattle.v_order.specs.Settling.{Settles}
 use Rattle.v_order.specs.Stepping.{Stepping, finished, all_finished, view_by, shown_by, next_of, next_by}
-use Rattle.v_order.specs.Steady.{AtOnce, AgreeBut, SettleAlike, IsSteadyIn, AreSteadyIn, IsSteady}
-use Rattle.v_order.proofs.Settled.{settled, alone}
+use Rattle.v_order.specs.Steady.{AtOnce, IsSteady}
 use Rattle.v_order.proofs.Steps.{agree_self, rest_in, finished_step, ended_at, all_ended, now, now_settled, now_alone, state, IsKept, Moved, moved}
 
 -- ---- lists

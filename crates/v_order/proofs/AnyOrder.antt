@@ -46,7 +46,7 @@ module _ (o : Owners) (m n : ℕ) (apart : m ≢ n) where
       let g : ℕ → ℕ = with_bits w.low w.width w.value in
       ap (λ (u : View). applied u writes) (written_swap p w.place f g v h k.0) ∙ one_swaps p f (written_at w.place g v) writes h k.1
 
-  applied_swap : (v : View) (first second : List Write) → AreTo (IsOwn o m) first → AreTo (IsOwn o n) second → applied (applied v first) second ≡ applied (applied v second) first
+  pub applied_swap : (v : View) (first second : List Write) → AreTo (IsOwn o m) first → AreTo (IsOwn o n) second → applied (applied v first) second ≡ applied (applied v second) first
   applied_swap v [] second h k = refl
   applied_swap v (w ∷ first) second h k =
       let f : ℕ → ℕ = with_bits w.low w.width w.value in
@@ -87,7 +87,7 @@ module _ (o : Owners) (m n : ℕ) (apart : m ≢ n) where
     memories = λ k seen. sym (changed_other (λ words. changed_at f words a) v.store.memories i k [] (not_seen o.memory b.memories i k there own seen));
   }
 
-  applied_agrees : (b : AtOnce) (v : View) (writes : List Write) → AreTo (IsWritten b) writes → AreTo (IsOwn o m) writes → AgreeFor b o n v (applied v writes)
+  pub applied_agrees : (b : AtOnce) (v : View) (writes : List Write) → AreTo (IsWritten b) writes → AreTo (IsOwn o m) writes → AgreeFor b o n v (applied v writes)
   applied_agrees b v [] within own = agree_here b v
   applied_agrees b v (w ∷ writes) within own =
       let u : View = written_at w.place (with_bits w.low w.width w.value) v in
@@ -114,7 +114,7 @@ abbrev with_writes : List Write → Stepping → Stepping
 with_writes writes s = record { view = applied s.view writes; queue = s.queue }
 
 -- Writes at once may be done before or behind.
-finished_past : (b : AtOnce) (o : Owners) (m n : ℕ) → m ≢ n → (writes : List Write) → AreTo (IsWritten b) writes → AreTo (IsOwn o m) writes → (x : Acts) (s : Stepping) → WritesTo (IsOwn o n) (IsOwn o n) x → ActsRespect (AgreeFor b o n) x →
+pub finished_past : (b : AtOnce) (o : Owners) (m n : ℕ) → m ≢ n → (writes : List Write) → AreTo (IsWritten b) writes → AreTo (IsOwn o m) writes → (x : Acts) (s : Stepping) → WritesTo (IsOwn o n) (IsOwn o n) x → ActsRespect (AgreeFor b o n) x →
     finished x (with_writes writes s) ≡ with_writes writes (finished x s)
 finished_past b o m n apart writes within own End s h looks = refl
 finished_past b o m n apart writes within own (Branch f rest) s h looks =
@@ -176,16 +176,16 @@ same_next s t h = ap (λ (v : View). stored v.store s.queue) h.view ∙ ap (λ (
 -- ---- a process may take a step first
 
 -- what is known of a process
-record IsAlone (b : AtOnce) (o : Owners) (process : ℕ) (acts : Acts) : Type 0 where
-  within : WritesOnlyIn b acts
-  apart : IsApartIn b o process acts
+pub record IsAlone (b : AtOnce) (o : Owners) (process : ℕ) (acts : Acts) : Type 0 where
+  pub within : WritesOnlyIn b acts
+  pub apart : IsApartIn b o process acts
 
 module _ (b : AtOnce) (o : Owners) where
   all_same : (n : ℕ) (left : List Acts) (s t : Stepping) → AreApartFrom b o n left → Same s t → Same (all_finished left s) (all_finished left t)
   all_same n [] s t h same = same
   all_same n (x ∷ left) s t h same = all_same (suc n) left (finished x s) (finished x t) h.1 (finished_behind o n [] (λ u others own. refl) x s t h.0.writes same)
 
-  alone_at : (n : ℕ) (left : List Acts) (i : ℕ) (a : Acts) → Each (WritesOnlyIn b) left → AreApartFrom b o n left → slice_get left i ≡ Some a → IsAlone b o (i + n) a
+  pub alone_at : (n : ℕ) (left : List Acts) (i : ℕ) (a : Acts) → Each (WritesOnlyIn b) left → AreApartFrom b o n left → slice_get left i ≡ Some a → IsAlone b o (i + n) a
   alone_at n [] i a within h is = absurd (cc is)
   alone_at n (x ∷ left) zero a within h is =
       let same : x ≡ a = cc is in
@@ -234,7 +234,7 @@ module _ (b : AtOnce) (o : Owners) where
   rest_apart n (Blocking f rest) v h = record { writes = h.writes.1; looks = h.looks.1 }
   rest_apart n (Nonblocking f rest) v h = record { writes = h.writes.1; looks = h.looks.1 }
 
-  apart_set : (n : ℕ) (left : List Acts) (i : ℕ) (a : Acts) (v : View) → AreApartFrom b o n left → slice_get left i ≡ Some a → AreApartFrom b o n (slice_set left i (rest_in v a))
+  pub apart_set : (n : ℕ) (left : List Acts) (i : ℕ) (a : Acts) (v : View) → AreApartFrom b o n left → slice_get left i ≡ Some a → AreApartFrom b o n (slice_set left i (rest_in v a))
   apart_set n [] i a v h is = tt
   apart_set n (x ∷ left) zero a v h is = let same : x ≡ a = cc is in (rest_apart n a v (subst (IsApartIn b o n) same h.0), h.1)
   apart_set n (x ∷ left) (suc i) a v h is = (h.0, apart_set (suc n) left i a v h.1 is)
@@ -258,7 +258,7 @@ module _ (b : AtOnce) (o : Owners) where
 
 -- ---- every schedule
 
-all_within : (d : Design) (order : List ℕ) (b : AtOnce) (left : List Acts) → AreSteadyIn d order b left → Each (WritesOnlyIn b) left
+pub all_within : (d : Design) (order : List ℕ) (b : AtOnce) (left : List Acts) → AreSteadyIn d order b left → Each (WritesOnlyIn b) left
 all_within d order b [] h = tt
 all_within d order b (x ∷ left) h = (h.0.writes, all_within d order b left h.1)
 

@@ -8,6 +8,7 @@ use Rattle.v_depends.specs.Nodes.{is_in}
 use Rattle.v_order.specs.Stepping.{next_by}
 use Rattle.v_order.specs.Steady.{AtOnce}
 use Rattle.v_order.specs.Apart.{Owners, AreApart}
+use Rattle.v_order.specs.Counting.{steps_in_order, TakesDown, IsShort}
 
 abbrev word_to : ℕ → ℕ → List Write
 word_to k value = record { place = Variable k; low = 0; width = 8; value = value } ∷ []
@@ -76,15 +77,24 @@ text_order = record {
   shows = refl;
   last = edge 5 (word_to 1 5 ++ word_to 2 5) (End ∷ End ∷ []);
   along = (
-      [], settles before, edge 5 [] (late ∷ second 0 ∷ []), refl,
-      (
-      [], settles (store_with 5), edge 5 (word_to 1 5) (End ∷ second 0 ∷ []), refl,
-      (
-      [], settles (store_with 5), edge 5 (word_to 1 5 ++ word_to 2 5) (End ∷ End ∷ []), refl,
+    [],
+    settles before,
+    edge 5 [] (late ∷ second 0 ∷ []),
+    refl,
+    (
+      [],
+      settles (store_with 5),
+      edge 5 (word_to 1 5) (End ∷ second 0 ∷ []),
       refl,
+      (
+        [],
+        settles (store_with 5),
+        edge 5 (word_to 1 5 ++ word_to 2 5) (End ∷ End ∷ []),
+        refl,
+        refl,
+      ),
     ),
-    ),
-    );
+  );
   ended = (refl, (refl, tt));
   next = refl;
 }
@@ -98,15 +108,24 @@ other_order = record {
   shows = refl;
   last = edge 5 (word_to 2 7 ++ word_to 1 5) (End ∷ End ∷ []);
   along = (
-      [], settles before, edge 7 (word_to 2 7) (first ∷ End ∷ []), refl,
-      (
-      [], settles before, edge 5 (word_to 2 7) (late ∷ End ∷ []), refl,
-      (
-      [], settles (store_with 5), edge 5 (word_to 2 7 ++ word_to 1 5) (End ∷ End ∷ []), refl,
+    [],
+    settles before,
+    edge 7 (word_to 2 7) (first ∷ End ∷ []),
+    refl,
+    (
+      [],
+      settles before,
+      edge 5 (word_to 2 7) (late ∷ End ∷ []),
       refl,
+      (
+        [],
+        settles (store_with 5),
+        edge 5 (word_to 2 7 ++ word_to 1 5) (End ∷ End ∷ []),
+        refl,
+        refl,
+      ),
     ),
-    ),
-    );
+  );
   ended = (refl, (refl, tt));
   next = refl;
 }
@@ -144,3 +163,23 @@ are_apart = (
 
 leaves : next_by (over (first ∷ second 1 ∷ [])) [] before (5 ∷ []) [] ≡ record { variables = 5 ∷ 5 ∷ 8 ∷ []; memories = [] }
 leaves = refl
+
+-- ---- how many steps they take
+
+-- two steps of process 0 and one of process 1
+counts : steps_in_order (first ∷ second 1 ∷ []) (view_over (5 ∷ []) [] before []) ≡ 2 ∷ 1 ∷ []
+counts = refl
+
+-- 0, 1, 0 is complete
+counted : TakesDown (2 ∷ 1 ∷ []) (0 ∷ 1 ∷ 0 ∷ []) (0 ∷ 0 ∷ [])
+counted = (1, refl, (0, refl, (0, refl, refl)))
+
+-- 0, 1, 1 is not, from its third entry on; nor 0, 1 behind its last one; nor 7 from its first one on
+second_again : IsShort (1 ∷ 0 ∷ []) (1 ∷ [])
+second_again = tt
+
+short : IsShort (1 ∷ 0 ∷ []) []
+short zeros = cc zeros.0
+
+no_process : IsShort (2 ∷ 1 ∷ []) (7 ∷ [])
+no_process = tt

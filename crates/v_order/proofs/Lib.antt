@@ -8,6 +8,7 @@ pub mod OrderRows
 pub mod Steps
 pub mod TextOrder
 pub mod AnyOrder
+pub mod Counting
 pub mod ApartRows
 pub mod SteadyRows
 pub mod Statements

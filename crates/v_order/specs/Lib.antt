@@ -4,3 +4,4 @@ pub mod Stepping
 pub mod Steady
 pub mod Numbered
 pub mod Apart
+pub mod Counting

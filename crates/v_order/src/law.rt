@@ -1,4 +1,4 @@
-ghost use Rattle.std.specs.Prelude.{◌≡◌, [], ℕ, List, length, Bool, None};
+ghost use Rattle.std.specs.Prelude.{◌≡◌, ◌↔◌, [], ℕ, List, length, Bool, None};
 ghost use Rattle.lz_machine.specs.Machine.{Realises};
 ghost use Rattle.v_syntax.specs.declared.expr.Expr.{Expr};
 ghost use Rattle.v_syntax.specs.declared.stmt.Stmt.{Stmt};
@@ -13,13 +13,15 @@ ghost use Rattle.v_meaning.specs.Declarations.{names_of};
 ghost use Rattle.v_meaning.specs.Modules.{design_of, module_machine};
 ghost use Rattle.v_meaning.specs.ProcessRules.{combinational_of};
 ghost use Rattle.v_meaning.specs.Uses.{uses_of};
-ghost use Rattle.v_meaning.specs.Designs.{Design, InAnyOrder, InTextOrder, IsOutcome, IsSettled, cycle_bits};
+ghost use Rattle.v_meaning.specs.Acts.{Acts, alone};
+ghost use Rattle.v_meaning.specs.Designs.{Design, InAnyOrder, InTextOrder, IsCycle, IsIncompleteAt, IsOutcome, IsSettled, cycle_bits, words_from};
 ghost use Rattle.v_order.specs.Apart.{AreApart, Owners};
+ghost use Rattle.v_order.specs.Counting.{IsCounted, IsShortAt, steps_in_order};
 ghost use Rattle.v_order.specs.Numbered.{AreNumbered};
 ghost use Rattle.v_order.specs.Reads.{nets_read, nets_read_by};
 ghost use Rattle.v_order.specs.Settling.{ActsLookOnlyAt, LooksOnlyAt, Settles, settled_by, with_nets};
 ghost use Rattle.v_order.specs.Steady.{AtOnce, IsSteady};
-ghost use Rattle.v_order.specs.Stepping.{next_by, shown_by};
+ghost use Rattle.v_order.specs.Stepping.{Stepping, finished, next_by, shown_by, view_by};
 
 /// Law: of all nets the value of an expression looks only at those that it reads, at every width and sign; and so do the
 /// acts of a statement.
@@ -49,6 +51,17 @@ pub fn text_order_cycles()
 /// steps, the cycle shows and leaves the same (IEEE Std 1364-2005, 11.4.2).
 pub fn any_order_cycles()
     ensures { (d : Design) (order : List ℕ) (b : AtOnce) (o : Owners) (before : Store) (inputs : List ℕ) (choice : List Bool) → d.combinational ≡ [] → Settles d order → IsSteady d order b → AreApart d b o → length choice ≡ cycle_bits d → IsOutcome InAnyOrder d before inputs choice (shown_by d order before inputs choice) (next_by d order before inputs choice) }
+{}
+
+/// Law: how many steps each process of such a design takes does not depend on the schedule, so that counting decides which
+/// schedules are complete. There is a cycle under a schedule exactly where each process stands in it as often as it takes
+/// steps, one process after another; and it is not complete behind so many entries exactly where those have taken the steps
+/// down and the next one names a process that has none left, or is none, or there is no next one. What a process makes of the
+/// view where it takes all its steps alone is what it leaves with the nets as they are.
+pub fn schedules_are_counted()
+    ensures complete { (d : Design) (order : List ℕ) (b : AtOnce) (o : Owners) (before : Store) (inputs : List ℕ) (choice : List Bool) (schedule : List ℕ) → d.combinational ≡ [] → Settles d order → IsSteady d order b → AreApart d b o → length choice ≡ cycle_bits d → IsCycle d before inputs choice schedule (shown_by d order before inputs choice) (next_by d order before inputs choice) ↔ IsCounted (steps_in_order d.clocked (view_by d order inputs (words_from d.sites choice) before)) schedule }
+    ensures incomplete { (d : Design) (order : List ℕ) (b : AtOnce) (o : Owners) (before : Store) (inputs : List ℕ) (choice : List Bool) (schedule : List ℕ) → d.combinational ≡ [] → Settles d order → IsSteady d order b → AreApart d b o → (index : ℕ) → IsIncompleteAt d before inputs choice schedule index ↔ IsShortAt (steps_in_order d.clocked (view_by d order inputs (words_from d.sites choice) before)) schedule index }
+    ensures alone { (process : Acts) (s : Stepping) → (finished process s).view ≡ alone process s.view }
 {}
 
 /// Law: a module that breaks no rule and whose processes are all clocked is steady: its blocking assignments write certain

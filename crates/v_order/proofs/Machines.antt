@@ -17,7 +17,7 @@ module _ (d : Design) (order : List ℕ) where
 
   module _ (Allowed Other : List ℕ → Type 0) (any : HasOutcomes InAnyOrder) (allowed : HasOutcomes Allowed) (other : HasOutcomes Other) where
     -- what is done under the other schedules is done under these
-    does_too : (before : Store) (inputs words : List WordValue) (after : Store) → Does Other d before inputs words after → Does Allowed d before inputs words after
+    pub does_too : (before : Store) (inputs words : List WordValue) (after : Store) → Does Other d before inputs words after → Does Allowed d before inputs words after
     does_too before inputs words after does =
         let schedule : List ℕ = does.outcome.some.0 in
         let cycle = does.outcome.some.2 in

@@ -1,11 +1,12 @@
 -- The processes of a module that breaks no rule and whose processes are all clocked are apart, so that every schedule does
 -- the same: each variable and each memory has one process that writes it (P3), and what that one writes at once is read in
 -- no other (P5).
-use Rattle.std.proofs.Common.{◌≡◌, ◌⊎◌, ◌+◌, ℕ, zero, suc, List, [], ◌∷◌, ◌++◌, length, length-append, map, flat_map, filter, Bool, true, false, not, None, refl, sym, ap, ◌∙◌, subst, inl, inr, append_assoc, append-nil, arith}
+use Rattle.std.proofs.Common.{◌≡◌, ◌⊎◌, ◌↔◌, ◌+◌, ℕ, zero, suc, List, [], ◌∷◌, ◌++◌, length, length-append, map, flat_map, filter, Bool, true, false, not, None, refl, sym, ap, ◌∙◌, subst, inl, inr, append_assoc, append-nil, arith}
 use Rattle.std.specs.Prelude.{⊤, bytes_eq, slice_index}
 use Rattle.std.proofs.lemmas.Bool.{or_cases, or_left, or_right, false_from_ne_true}
 use Rattle.std.proofs.lemmas.List.Concat.{flat_map-append}
 use Rattle.lz_base.specs.Names.{is_among}
+use Rattle.lz_base.specs.WordValue.{WordValue}
 use Rattle.lz_machine.specs.Machine.{Realises}
 use Rattle.v_syntax.specs.declared.stmt.AssignKind.TheVariants as a
 use Rattle.v_syntax.specs.declared.stmt.Stmt.{Stmt}
@@ -18,7 +19,7 @@ use Rattle.v_meaning.specs.declared.names.Kind.{Kind}
 use Rattle.v_meaning.specs.declared.names.Kind.TheVariants as k
 use Rattle.v_meaning.specs.declared.names.Entry.{Entry}
 use Rattle.v_meaning.specs.Declarations.{is_variable, is_memory, names_of}
-use Rattle.v_meaning.specs.Designs.{cycle_bits, InTextOrder, InAnyOrder, IsOutcome}
+use Rattle.v_meaning.specs.Designs.{cycle_bits, InTextOrder, InAnyOrder, IsOutcome, Does}
 use Rattle.v_meaning.specs.Modules.{design_of, module_machine}
 use Rattle.v_meaning.specs.Statements.{acts_of}
 use Rattle.v_meaning.specs.Uses.{Access, Read, Write, ProcessUse, use_of, item_process_uses, uses_of}
@@ -39,7 +40,7 @@ use Rattle.v_order.proofs.Alike.{IsOut, not_combinational}
 use Rattle.v_order.proofs.Names.{among_left, among_right, among_cases, kind_of, numbers_among, number_there, number_out, places_none, items_have}
 use Rattle.v_order.proofs.ModuleSteady.{at_once, out_kind, sites_of, no_combinational, all_steady, module_cycles}
 use Rattle.v_order.proofs.AnyOrder.{any_order}
-use Rattle.v_order.proofs.Machines.{HasOutcomes, realises}
+use Rattle.v_order.proofs.Machines.{HasOutcomes, does_too, realises}
 
 -- ---- what a process may look at
 
@@ -323,6 +324,12 @@ module _ (m : Module) (typed : first_fault (places_of m) typing_rules ≡ None) 
 
   text : HasOutcomes (design_of m) order InTextOrder
   text = module_cycles m typed kept only order settles
+
+  pub do_same : (before : Store) (inputs words : List WordValue) (after : Store) → Does InTextOrder (design_of m) before inputs words after ↔ Does InAnyOrder (design_of m) before inputs words after
+  do_same before inputs words after = (
+    does_too (design_of m) order InAnyOrder InTextOrder any any text before inputs words after,
+    does_too (design_of m) order InTextOrder InAnyOrder any text any before inputs words after,
+  )
 
   pub any_realises_text : Realises (module_machine InTextOrder m) (module_machine InAnyOrder m)
   any_realises_text = realises (design_of m) order InTextOrder InAnyOrder any text any

@@ -1,4 +1,5 @@
 ghost use Rattle.std.specs.Prelude.{◌≡◌, ◌↔◌, [], ℕ, List, length, Bool, None};
+ghost use Rattle.lz_base.specs.WordValue.{WordValue};
 ghost use Rattle.lz_machine.specs.Machine.{Realises};
 ghost use Rattle.v_syntax.specs.declared.expr.Expr.{Expr};
 ghost use Rattle.v_syntax.specs.declared.stmt.Stmt.{Stmt};
@@ -14,7 +15,7 @@ ghost use Rattle.v_meaning.specs.Modules.{design_of, module_machine};
 ghost use Rattle.v_meaning.specs.ProcessRules.{combinational_of};
 ghost use Rattle.v_meaning.specs.Uses.{uses_of};
 ghost use Rattle.v_meaning.specs.Acts.{Acts, alone};
-ghost use Rattle.v_meaning.specs.Designs.{Design, InAnyOrder, InTextOrder, IsCycle, IsIncompleteAt, IsOutcome, IsSettled, cycle_bits, words_from};
+ghost use Rattle.v_meaning.specs.Designs.{Design, Does, InAnyOrder, InTextOrder, IsCycle, IsIncompleteAt, IsOutcome, IsSettled, cycle_bits, words_from};
 ghost use Rattle.v_order.specs.Apart.{AreApart, Owners};
 ghost use Rattle.v_order.specs.Counting.{IsCounted, IsShortAt, steps_in_order};
 ghost use Rattle.v_order.specs.Numbered.{AreNumbered};
@@ -85,11 +86,12 @@ pub fn processes_are_apart()
 {}
 
 /// Law: so every schedule of such a module does the same. Some schedule is complete, and in whatever order the processes take
-/// their steps, each complete one shows and leaves what the cycle does in text order (IEEE Std 1364-2005, 11.4.2). The
-/// machine under every schedule and the one in text order do what the other one does: what realises the one realises the
+/// their steps, each complete one shows and leaves what the cycle does in text order (IEEE Std 1364-2005, 11.4.2). What its
+/// machine does in a cycle under every schedule is what it does in text order, and each of the two machines realises the
 /// other.
 pub fn every_schedule_does_the_same()
     ensures outcome { (m : Module) → first_fault (places_of m) typing_rules ≡ None → first_fault (places_of m) process_rules ≡ None → combinational_of (uses_of (names_of m) m) ≡ [] → (order : List ℕ) → Settles (design_of m) order → (before : Store) (inputs : List ℕ) (choice : List Bool) → length choice ≡ cycle_bits (design_of m) → IsOutcome InAnyOrder (design_of m) before inputs choice (shown_by (design_of m) order before inputs choice) (next_by (design_of m) order before inputs choice) }
+    ensures does { (m : Module) → first_fault (places_of m) typing_rules ≡ None → first_fault (places_of m) process_rules ≡ None → combinational_of (uses_of (names_of m) m) ≡ [] → (order : List ℕ) → Settles (design_of m) order → (before : Store) (inputs words : List WordValue) (after : Store) → Does InTextOrder (design_of m) before inputs words after ↔ Does InAnyOrder (design_of m) before inputs words after }
     ensures any { (m : Module) → first_fault (places_of m) typing_rules ≡ None → first_fault (places_of m) process_rules ≡ None → combinational_of (uses_of (names_of m) m) ≡ [] → (order : List ℕ) → Settles (design_of m) order → Realises (module_machine InAnyOrder m) (module_machine InTextOrder m) }
     ensures text { (m : Module) → first_fault (places_of m) typing_rules ≡ None → first_fault (places_of m) process_rules ≡ None → combinational_of (uses_of (names_of m) m) ≡ [] → (order : List ℕ) → Settles (design_of m) order → Realises (module_machine InTextOrder m) (module_machine InAnyOrder m) }
 {}

@@ -5,7 +5,7 @@ ghost use Rattle.v_parser.specs.Gives.{Gives};
 use crate::declarations::{declared_list, flag, range_option, settings_list, variable_list};
 use crate::miss::{Miss, Read};
 use crate::stmts::stmt;
-use crate::tokens::{before, ident, mark, next_is, next_word, word};
+use crate::tokens::{before, beside, ident, mark, next_is, next_word, word};
 use std::alloc::Global;
 use v_syntax::{Event, INNER_LEVELS, Item, Keyword, Mark, ParameterGroup, Token};
 
@@ -16,7 +16,7 @@ fn settings<'t>(alloc: Global, tokens: &'t [Token]) -> Read<'t, ParameterGroup>
 {
     let (signed, rest) = flag(tokens, Keyword::Signed)?;
     let (range, rest) = range_option(alloc, rest)?;
-    let (settings, rest) = settings_list(alloc, rest)?;
+    let (range, (settings, rest)) = beside(range, settings_list(alloc, rest))?;
     Ok((
         ParameterGroup {
             signed,
@@ -55,7 +55,7 @@ fn wire_item<'t>(alloc: Global, tokens: &'t [Token]) -> Read<'t, Item>
     let (_, rest) = word(tokens, Keyword::Wire)?;
     let (signed, rest) = flag(rest, Keyword::Signed)?;
     let (range, rest) = range_option(alloc, rest)?;
-    let (nets, rest) = declared_list(alloc, rest)?;
+    let (range, (nets, rest)) = beside(range, declared_list(alloc, rest))?;
     let wires = Item::Wires {
         signed,
         range,
@@ -72,7 +72,7 @@ fn reg_item<'t>(alloc: Global, tokens: &'t [Token]) -> Read<'t, Item>
     let (_, rest) = word(tokens, Keyword::Reg)?;
     let (signed, rest) = flag(rest, Keyword::Signed)?;
     let (range, rest) = range_option(alloc, rest)?;
-    let (variables, rest) = variable_list(alloc, rest)?;
+    let (range, (variables, rest)) = beside(range, variable_list(alloc, rest))?;
     let regs = Item::Regs {
         signed,
         range,
@@ -153,7 +153,7 @@ fn always_item<'t>(alloc: Global, tokens: &'t [Token]) -> Read<'t, Item>
     let (_, rest) = word(tokens, Keyword::Always)?;
     let (_, rest) = mark(rest, Mark::At)?;
     let (event, rest) = event(alloc, rest)?;
-    let (body, rest) = stmt(alloc, rest, INNER_LEVELS)?;
+    let (event, (body, rest)) = beside(event, stmt(alloc, rest, INNER_LEVELS))?;
     Ok((Item::Always { event, body }, rest))
 }
 

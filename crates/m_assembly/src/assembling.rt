@@ -1,4 +1,4 @@
-ghost use Rattle.std.specs.Prelude.{◌≡◌, [], IfOk};
+ghost use Rattle.std.specs.Prelude.{◌≡◌, IfOk};
 ghost use Rattle.lz_machine.specs.Machine.{Realises};
 ghost use Rattle.n_cells.specs.AsMachine.{netlist_machine};
 ghost use Rattle.g_net.specs.AsMachine.{network_machine};
@@ -11,27 +11,30 @@ use crate::draft::Draft;
 use crate::ends::{clock_of, copy, flops_of, input_ports, output_nets, output_ports};
 use crate::gates::push_gates;
 use g_net::{Line, Network, Proposal};
-use lz_base::{Items, OutOfMemory};
+use lz_base::{Items, Name, OutOfMemory, Port};
 use m_valid::assembly_agrees;
 use n_cells::Netlist;
 use n_parts::{Parts, make};
 use std::alloc::Global;
 
-// The network's name, clock and inputs, and no other line.
-fn front_of(alloc: Global, network: &Network) -> Result<Parts, OutOfMemory>
-    ensures { IfOk result (λ parts. parts ≡ record { name = network.now.name; clock = network.now.clock; inputs = network.now.inputs; flops = []; cells = []; outputs = []; nets = [] }) }
+// What a netlist has as its network has it.
+#[derive(Drop)]
+struct Front {
+    name: Name,
+    clock: Option<Name>,
+    inputs: Items<Port>,
+}
+
+fn front_of(alloc: Global, network: &Network) -> Result<Front, OutOfMemory>
+    ensures { IfOk result (λ front. front ≡ record { name = network.now.name; clock = network.now.clock; inputs = network.now.inputs }) }
 {
     let inputs = input_ports(alloc, network.inputs())?;
     let clock = clock_of(alloc, network.clock())?;
     let name = copy(alloc, network.name())?;
-    Ok(Parts {
+    Ok(Front {
         name,
         clock,
         inputs,
-        flops: Items::new(alloc),
-        cells: Items::new(alloc),
-        outputs: Items::new(alloc),
-        nets: Items::new(alloc),
     })
 }
 
@@ -45,12 +48,20 @@ fn parts_of(alloc: Global, network: &Network, lines: &[Line]) -> Result<Parts, O
     let flops = flops_of(alloc, &mut draft, network.flips())?;
     let nets = output_nets(alloc, &mut draft, network)?;
     let outputs = output_ports(alloc, network)?;
-    let mut parts = front_of(alloc, network)?;
-    parts.flops = flops;
-    parts.cells = draft.into_cells();
-    parts.outputs = outputs;
-    parts.nets = nets;
-    Ok(parts)
+    let Front {
+        name,
+        clock,
+        inputs,
+    } = front_of(alloc, network)?;
+    Ok(Parts {
+        name,
+        clock,
+        inputs,
+        flops,
+        cells: draft.into_cells(),
+        outputs,
+        nets,
+    })
 }
 
 /// The netlist that a valid proposal makes of a network.

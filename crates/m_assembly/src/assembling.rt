@@ -11,11 +11,32 @@ use crate::draft::Draft;
 use crate::ends::{clock_of, copy, flops_of, input_ports, output_nets, output_ports};
 use crate::gates::push_gates;
 use g_net::{Line, Network, Proposal};
-use lz_base::OutOfMemory;
+use lz_base::{Items, Name, OutOfMemory, Port};
 use m_valid::assembly_agrees;
 use n_cells::Netlist;
 use n_parts::{Parts, make};
 use std::alloc::Global;
+
+// What a netlist has as its network has it.
+#[derive(Drop)]
+struct Front {
+    name: Name,
+    clock: Option<Name>,
+    inputs: Items<Port>,
+}
+
+fn front_of(alloc: Global, network: &Network) -> Result<Front, OutOfMemory>
+    ensures { IfOk result (λ front. front ≡ record { name = network.now.name; clock = network.now.clock; inputs = network.now.inputs }) }
+{
+    let inputs = input_ports(alloc, network.inputs())?;
+    let clock = clock_of(alloc, network.clock())?;
+    let name = copy(alloc, network.name())?;
+    Ok(Front {
+        name,
+        clock,
+        inputs,
+    })
+}
 
 // The parts of the netlist that these lines make of a network.
 fn parts_of(alloc: Global, network: &Network, lines: &[Line]) -> Result<Parts, OutOfMemory>
@@ -27,9 +48,11 @@ fn parts_of(alloc: Global, network: &Network, lines: &[Line]) -> Result<Parts, O
     let flops = flops_of(alloc, &mut draft, network.flips())?;
     let nets = output_nets(alloc, &mut draft, network)?;
     let outputs = output_ports(alloc, network)?;
-    let inputs = input_ports(alloc, network.inputs())?;
-    let clock = clock_of(alloc, network.clock())?;
-    let name = copy(alloc, network.name())?;
+    let Front {
+        name,
+        clock,
+        inputs,
+    } = front_of(alloc, network)?;
     Ok(Parts {
         name,
         clock,

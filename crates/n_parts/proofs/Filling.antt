@@ -76,12 +76,9 @@ front_distinct : (a b : List (List ℕ)) → AreDistinct (a ++ b) → AreDistinc
 front_distinct [] b h = tt
 front_distinct (x ∷ a) b h = (new_front x a b h.0, front_distinct a b h.1)
 
--- no line but the model's and the clock's
-pub start_names : (m whole : NetlistValue) (ports : List Port) (name : List ℕ) → m ≡ record { name = name; clock = whole.clock; inputs = []; flops = []; cells = []; outputs = []; nets = [] } → ports ≡ whole.inputs
-    → AreDistinct (names_of whole) → AreDistinct (names_of m ++ map (λ (p : Port). p.name) ports)
-start_names m whole ports name e f h =
-    let clock : names_of m ≡ option_to_list whole.clock = ap names_of e ∙ append-nil (option_to_list whole.clock ++ []) ∙ append-nil (option_to_list whole.clock) in
-    let front : AreDistinct (option_to_list whole.clock ++ map (λ (p : Port). p.name) whole.inputs) =
-    front_distinct (option_to_list whole.clock ++ map (λ (p : Port). p.name) whole.inputs) (map (λ (p : Port). p.name) whole.outputs) h in
-    subst (λ (l : List (List ℕ)). AreDistinct (l ++ map (λ (p : Port). p.name) ports)) (sym clock)
-    (subst (λ (ps : List Port). AreDistinct (option_to_list whole.clock ++ map (λ (p : Port). p.name) ps)) (sym f) front)
+-- a netlist without lines has the clock's name alone
+pub start_names : (m : NetlistValue) (inputs outputs : List Port) → m ≡ record m { inputs = []; flops = []; cells = []; outputs = []; nets = [] }
+    → AreDistinct (option_to_list m.clock ++ map (λ (p : Port). p.name) inputs ++ map (λ (p : Port). p.name) outputs) → AreDistinct (names_of m ++ map (λ (p : Port). p.name) inputs)
+start_names m inputs outputs e h =
+    let clock : names_of m ≡ option_to_list m.clock = ap names_of e ∙ append-nil (option_to_list m.clock ++ []) ∙ append-nil (option_to_list m.clock) in
+    subst (λ (l : List (List ℕ)). AreDistinct (l ++ map (λ (p : Port). p.name) inputs)) (sym clock) (front_distinct (option_to_list m.clock ++ map (λ (p : Port). p.name) inputs) (map (λ (p : Port). p.name) outputs) h)

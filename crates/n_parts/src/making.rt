@@ -89,6 +89,26 @@ fn fill_outputs(
     Ok(())
 }
 
+// Appends all lines to a maker that has none but the model's and the clock's.
+fn fill(
+    alloc: Global,
+    maker: &mut NetlistMaker,
+    inputs: &[Port],
+    flops: &[Flop],
+    cells: &[Piece],
+    outputs: &[Port],
+    nets: &[Items<Num>],
+) -> Result<(), OutOfMemory>
+    requires bare { maker.old ≡ record maker.old { inputs = []; flops = []; cells = []; outputs = []; nets = [] } }
+    requires formed { IsWellFormed (record maker.old { inputs = inputs.now; flops = flops.now; cells = cells.now; outputs = outputs.now; nets = nets.now }) }
+    ensures { OnOk result (maker.new ≡ record maker.old { inputs = inputs.now; flops = flops.now; cells = cells.now; outputs = outputs.now; nets = nets.now }) }
+{
+    fill_inputs(alloc, maker, inputs)?;
+    fill_flops(maker, flops)?;
+    fill_cells(maker, cells)?;
+    fill_outputs(alloc, maker, outputs, nets)
+}
+
 /// The netlist of these parts, where they are well formed. `OutOfMemory` is the only other answer.
 ///
 /// It takes work that is linear in the parts.
@@ -107,9 +127,14 @@ pub fn make(alloc: Global, parts: Parts) -> Result<Netlist, OutOfMemory>
         nets,
     } = parts;
     let mut maker = NetlistMaker::new(alloc, name, clock);
-    fill_inputs(alloc, &mut maker, inputs.as_slice())?;
-    fill_flops(&mut maker, flops.as_slice())?;
-    fill_cells(&mut maker, cells.as_slice())?;
-    fill_outputs(alloc, &mut maker, outputs.as_slice(), nets.as_slice())?;
+    fill(
+        alloc,
+        &mut maker,
+        inputs.as_slice(),
+        flops.as_slice(),
+        cells.as_slice(),
+        outputs.as_slice(),
+        nets.as_slice(),
+    )?;
     Ok(maker.finish())
 }

@@ -256,6 +256,7 @@ has_push typed p names w h k =
     sum : (typed : List (ℕ × Typed)) → (formed_parts (part_forms (typed ++ p ∷ [])) names).width ≡ (formed_parts (part_forms typed) names).width + p.0
     sum [] = omega arith
     sum (x ∷ xs) = let more = sum xs in omega (arith, more)
+
     all : (typed : List (ℕ × Typed)) → (formed_parts (part_forms typed) names).kept ≡ true → (formed_parts (part_forms (typed ++ p ∷ [])) names).kept ≡ true
     all [] q = both k refl
     all (x ∷ xs) q =

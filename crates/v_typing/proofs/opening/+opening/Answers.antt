@@ -43,16 +43,22 @@ pub opened-returns-in_ok-o-in-Cast-clause-value : goal.opened-returns-in_ok-o-in
 opened-returns-in_ok-o-in-Cast-clause-value t c = ap (λ (f : Meaning). f c.args.names.now) c.in_ok-o-in-Cast.ensures.value ∙ when_cast c.args.names.now c.args.sites.now c.args.x.now _ _ _ _ c.in-Cast.is c.get-in-Cast.ensures c.in_ok-x-in-Cast.ensures.value
 
 pub chained-loop-operator-preserved : goal.chained-loop-operator-preserved
-chained-loop-operator-preserved t c = (chained_next c.args.names.now c.args.sites.now _ _ _ _ c.args.links.now _ _ c.loop-operator-test.true c.loop-operator-item.is c.in_ok-y.ensures.value (ap (λ (f : Meaning). f c.args.names.now) c.in_ok-all.ensures.value) c.loop-operator.invariant.0, others_pass (λ (link : BinaryOperator × Expr). is_sound c.args.names.now link.1) c.args.links.now _ _ c.loop-operator-test.true c.loop-operator-item.is c.loop-operator.invariant.1,
-  λ h. c.in_ok-all.ensures.form c.args.names.now (c.loop-operator.invariant.2 h) c.in_ok-y.ensures.form)
+chained-loop-operator-preserved t c = (
+  chained_next c.args.names.now c.args.sites.now _ _ _ _ c.args.links.now _ _ c.loop-operator-test.true c.loop-operator-item.is c.in_ok-y.ensures.value (ap (λ (f : Meaning). f c.args.names.now) c.in_ok-all.ensures.value) c.loop-operator.invariant.0,
+  others_pass (λ (link : BinaryOperator × Expr). is_sound c.args.names.now link.1) c.args.links.now _ _ c.loop-operator-test.true c.loop-operator-item.is c.loop-operator.invariant.1,
+  λ h. c.in_ok-all.ensures.form c.args.names.now (c.loop-operator.invariant.2 h) c.in_ok-y.ensures.form,
+)
 
 pub joined-wider-width-requires : goal.joined-wider-width-requires
 joined-wider-width-requires t c = room c.args.names.now c.args.sites.now c.args.parts.now _ _ _ c.loop-x.typed _ _ c.loop-x-test.true c.x-item.is c.in_ok-one.ensures.value c.loop-x.invariant.0 c.requires.narrow
 
 pub joined-loop-x-preserved : goal.joined-loop-x-preserved
 joined-loop-x-preserved t c =
-    rw c.wider-width.ensures (joined_next c.args.names.now c.args.sites.now c.args.parts.now _ _ _ c.loop-x.typed _ _ _ _ c.loop-x-test.true c.x-item.is c.in_ok-one.ensures.value c.in_ok-push.ensures.ok (ap (λ (f : Value). f c.args.names.now) c.in_ok-t.ensures.value) c.loop-x.invariant.0, others_pass (is_sound c.args.names.now) c.args.parts.now _ _ c.loop-x-test.true c.x-item.is c.loop-x.invariant.1,
-  next_has c.args.names.now c.loop-x.typed _ _ c.in_ok-one.one _ c.in_ok-push.ensures.ok c.in_ok-one.ensures.form (c.in_ok-t.ensures.form c.args.names.now) c.loop-x.invariant.2)
+    rw c.wider-width.ensures (
+      joined_next c.args.names.now c.args.sites.now c.args.parts.now _ _ _ c.loop-x.typed _ _ _ _ c.loop-x-test.true c.x-item.is c.in_ok-one.ensures.value c.in_ok-push.ensures.ok (ap (λ (f : Value). f c.args.names.now) c.in_ok-t.ensures.value) c.loop-x.invariant.0,
+      others_pass (is_sound c.args.names.now) c.args.parts.now _ _ c.loop-x-test.true c.x-item.is c.loop-x.invariant.1,
+      next_has c.args.names.now c.loop-x.typed _ _ c.in_ok-one.one _ c.in_ok-push.ensures.ok c.in_ok-one.ensures.form (c.in_ok-t.ensures.form c.args.names.now) c.loop-x.invariant.2,
+    )
 
 pub joined-returns-clause-value : goal.joined-returns-clause-value
 joined-returns-clause-value t c = joined_done c.args.names.now c.args.sites.now c.args.parts.now _ _ c.loop-x.typed _ _ _ c.loop-x-test.false c.leaf.ensures.value c.side_by_side.ensures.value c.loop-x.invariant.0

@@ -4,3 +4,4 @@ pub mod Outputs
 pub mod SoundExprs
 pub mod SoundItems
 pub mod TypedDesigns
+pub mod Formed

@@ -1,4 +1,5 @@
 use Rattle.std.proofs.Common.{rules, ◌∙◌, ap, map, flat_map}
+use Rattle.std.specs.Prelude.{◌&&◌}
 use Rattle.v_core.specs.declared.modules.TypedSite.{TypedSite}
 use Rattle.v_meaning.specs.Names.{entry_of}
 use Rattle.v_meaning.specs.Modules.{output_names, item_assigns, item_combinational, item_clocked}
@@ -23,3 +24,7 @@ returns-clause-design c =
     (c.in_ok-parts.ensures.assigns ∙ ap (flat_map (item_assigns names places)) c.as_slice-2.ensures)
     (c.in_ok-parts.ensures.combinational ∙ ap (flat_map (item_combinational names places)) c.as_slice-2.ensures)
     (c.in_ok-parts.ensures.clocked ∙ ap (flat_map (item_clocked names places)) c.as_slice-2.ensures)
+
+pub returns-clause-form : goal.returns-clause-form
+returns-clause-form c =
+    rw (c.in_ok-entries.ensures ∙ c.entries.ensures) (λ i. c.in_ok-parts.ensures.formed_assigns i && c.in_ok-parts.ensures.formed_processes i)

@@ -1,0 +1,6 @@
+pub mod Spans
+pub mod Exprs
+pub mod Stmts
+pub mod Modules
+pub mod Thinning
+pub mod Found

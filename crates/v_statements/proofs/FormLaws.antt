@@ -1,5 +1,5 @@
 -- How typed targets and statements keep to their widths, and items and arms to the width that they are compared at.
-use Rattle.std.proofs.Common.{◌≡◌, ◌≤◌, ◌<◌, ◌+◌, ap, sym, subst, ◌∙◌, refl, ℕ, List, [], ◌∷◌, ◌++◌, map, max, Bool, true, false, tt, arith}
+use Rattle.std.proofs.Common.{◌≡◌, ◌≤◌, ◌<◌, ◌+◌, ap, sym, subst, ◌∙◌, refl, ℕ, List, [], ◌∷◌, ◌++◌, map, max, Bool, true, false, arith}
 use Rattle.std.specs.Prelude.{◌&&◌, ◌==◌, ◌-◌, nat_le, if◌then◌else◌}
 use Rattle.std.specs.List.{list_all}
 use Rattle.std.proofs.Math.Path.{fun_ext}
@@ -69,7 +69,7 @@ form_block body =
     ap is_formed_stmt (sym (s.rolls-Block body)) ∙ fold-roll-TypedStmt KeptIn KeptArm formed_stmt_step formed_arm_step (o.Block body)
     ∙ fun_ext (λ names. list_all-map (λ (one : KeptIn). one names) is_formed_stmt body)
 
-kept_arm : TypedArm → KeptArm
+abbrev kept_arm : TypedArm → KeptArm
 kept_arm = fold-TypedArm KeptIn KeptArm formed_stmt_step formed_arm_step
 
 arms_kept : (w : ℕ) (names : List Entry) (arms : List TypedArm) → list_all (λ (arm : KeptArm). arm w names) (map kept_arm arms) ≡ list_all (is_formed_arm w names) arms

@@ -5,7 +5,7 @@ use Rattle.v_statements.proofs.cases.compared.Goals as goal
 pub returns-clause-form : goal.returns-clause-form
 returns-clause-form c names h each =
     compared_keeps names _ c.args.subject _ c.args.arms _ _ _ c.chosen.ensures.form c.in_ok-subject.ensures.form (c.in_ok-arms.ensures.form names) (c.common-by.ensures names)
-    c.as_slice.ensures hole h each
+    c.as_slice.ensures c.if-by-gt128.false h each
 
 pub returns-clause-value : goal.returns-clause-value
 returns-clause-value c = λ names.

@@ -34,8 +34,10 @@ measured-joined-requires t c = (
   omega (arith, ap the_size c.in-Concat.is, parts_deeper c.in-Concat.brace c.in-Concat.parts, ap (most the_size) c.as_slice.ensures),
   (
     sound_parts c.args.names.now c.args.target.now _ _ _ c.in-Concat.is c.as_slice.ensures c.requires.sound,
-    some_parts c.args.names.now c.args.sites.now c.args.target.now _ _ _ c.in-Concat.is c.as_slice.ensures c.requires.sound,
-    narrow_parts c.args.names.now c.args.sites.now c.args.target.now _ _ _ c.in-Concat.is c.as_slice.ensures c.requires.sound,
+    (
+      some_parts c.args.names.now c.args.sites.now c.args.target.now _ _ _ c.in-Concat.is c.as_slice.ensures c.requires.sound,
+      narrow_parts c.args.names.now c.args.sites.now c.args.target.now _ _ _ c.in-Concat.is c.as_slice.ensures c.requires.sound,
+    ),
   ),
 )
 

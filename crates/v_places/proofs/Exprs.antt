@@ -124,14 +124,14 @@ module _ (names : List Entry) where
   within_select : {expr : Rule Expr} → WithinExpr expr → WithinExpr (IsSelect expr)
   within_select p = record {
     takes = λ before after x d.
-      let index : Expr = d.3.3.1 in
-      let close = d.3.3.3 in
-      let own : Site = select_opening names d.1 index in
-      let is : openings_of names x ≡ own ∷ (openings_of names index ++ []) =
-          ap (openings_of names) close.3.1 ∙ at_select d.1 d.3.1 index ∙ ap (λ (r : List Site). own ∷ r) (sym (append-nil (openings_of names index))) in
-      subst (λ (r : List Site). Takes before after r) (sym is)
-      (takes_more (takes_one before d.0 _ own refl d.2) (takes_more (takes_token d.0 d.3.0 _ d.3.2)
-      (takes_more (p.takes d.3.0 d.3.3.0 index d.3.3.2) (takes_more (takes_token d.3.3.0 close.0 _ close.2) (takes_none close.0 after close.3.0)))));
+        let index : Expr = d.3.3.1 in
+        let close = d.3.3.3 in
+        let own : Site = select_opening names d.1 index in
+        let is : openings_of names x ≡ own ∷ (openings_of names index ++ []) =
+        ap (openings_of names) close.3.1 ∙ at_select d.1 d.3.1 index ∙ ap (λ (r : List Site). own ∷ r) (sym (append-nil (openings_of names index))) in
+        subst (λ (r : List Site). Takes before after r) (sym is)
+        (takes_more (takes_one before d.0 _ own refl d.2) (takes_more (takes_token d.0 d.3.0 _ d.3.2)
+        (takes_more (p.takes d.3.0 d.3.3.0 index d.3.3.2) (takes_more (takes_token d.3.3.0 close.0 _ close.2) (takes_none close.0 after close.3.0)))));
   }
 
   within_part : {expr : Rule Expr} → WithinExpr expr → WithinExpr (IsPart expr)

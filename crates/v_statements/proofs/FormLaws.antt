@@ -140,6 +140,7 @@ has_push typed x names w v h k =
     sum : (typed : List TypedTarget) → (target_parts (map target_form (typed ++ x ∷ [])) names).width ≡ (target_parts (map target_form typed) names).width + (target_form x names).width
     sum [] = omega arith
     sum (y ∷ ys) = let more = sum ys in omega (arith, more)
+
     all : (typed : List TypedTarget) → (target_parts (map target_form typed) names).kept ≡ true → (target_parts (map target_form (typed ++ x ∷ [])) names).kept ≡ true
     all [] q = both (kept_of v (target_form x names) k) refl
     all (y ∷ ys) q =

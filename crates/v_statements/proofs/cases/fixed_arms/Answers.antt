@@ -9,8 +9,8 @@ use Rattle.v_statements.proofs.cases.fixed_arms.Goals as goal
 pub loop-arm-preserved : goal.loop-arm-preserved
 loop-arm-preserved c = (
   λ names.
-    last_left (typed_arm names) (λ (o : OpenArm). arm_at (comparison_in c.args.by) (open_arm names o)) c.loop-arm.fixed.items _ _ _ _ _ _ c.in-Some.ensures c.in_ok-push.ensures.items
-    (c.in_ok-one.ensures.value names) (c.loop-arm.invariant.0 names),
+      last_left (typed_arm names) (λ (o : OpenArm). arm_at (comparison_in c.args.by) (open_arm names o)) c.loop-arm.fixed.items _ _ _ _ _ _ c.in-Some.ensures c.in_ok-push.ensures.items
+      (c.in_ok-one.ensures.value names) (c.loop-arm.invariant.0 names),
   λ names. last_left (arm_form names) (open_arm_form names c.args.by) c.loop-arm.fixed.items _ _ _ _ _ _ c.in-Some.ensures c.in_ok-push.ensures.items (c.in_ok-one.ensures.form names) (c.loop-arm.invariant.1 names),
 )
 

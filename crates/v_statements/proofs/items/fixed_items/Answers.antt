@@ -9,8 +9,8 @@ use Rattle.v_statements.proofs.items.fixed_items.Goals as goal
 pub loop-item-preserved : goal.loop-item-preserved
 loop-item-preserved c = (
   λ names.
-    last_left (typed_item names) (λ (o : OpenItem). item_at (comparison_in c.args.by) (open_item names o)) c.loop-item.fixed.items _ _ _ _ _ _ c.in-Some.ensures c.in_ok-push.ensures.items
-    (c.in_ok-one.ensures.value names) (c.loop-item.invariant.0 names),
+      last_left (typed_item names) (λ (o : OpenItem). item_at (comparison_in c.args.by) (open_item names o)) c.loop-item.fixed.items _ _ _ _ _ _ c.in-Some.ensures c.in_ok-push.ensures.items
+      (c.in_ok-one.ensures.value names) (c.loop-item.invariant.0 names),
   λ names. last_left (item_form names) (open_item_form names c.args.by) c.loop-item.fixed.items _ _ _ _ _ _ c.in-Some.ensures c.in_ok-push.ensures.items (c.in_ok-one.ensures.form names) (c.loop-item.invariant.1 names),
 )
 

@@ -118,7 +118,7 @@ opened_arms-statement-requires t c = (
 pub opened_arms-loop-arm-preserved : goal.opened_arms-loop-arm-preserved
 opened_arms-loop-arm-preserved t c = (
   one_same _ _ c.loop-arm.all _ c.args.arms.now _ _ _ c.loop-arm-test.true c.arm-item.is c.in_ok-push.ensures.ok
-    (arm_opened c.args.names.now c.args.sites.now c.args.kind _ _ _ c.in_ok-label.ensures.items c.in_ok-label.ensures.default c.in_ok-body.ensures.value) c.loop-arm.invariant.0,
+      (arm_opened c.args.names.now c.args.sites.now c.args.kind _ _ _ c.in_ok-label.ensures.items c.in_ok-label.ensures.default c.in_ok-body.ensures.value) c.loop-arm.invariant.0,
   each_push (ArmFormed c.args.names.now) c.loop-arm.all _ _ c.in_ok-push.ensures.ok (record { items = c.in_ok-label.ensures.form; body = c.in_ok-body.ensures.form })
       c.loop-arm.invariant.1,
 )

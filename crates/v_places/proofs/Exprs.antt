@@ -2,20 +2,17 @@
 use Rattle.std.proofs.Common.{◌≡◌, ℕ, zero, suc, List, [], ◌∷◌, ◌++◌, map, flat_map, refl, sym, ap, subst, ◌∙◌, inl, inr, append-nil}
 use Rattle.std.proofs.lemmas.List.Concat.{flat_map-cons}
 use Rattle.v_syntax.specs.declared.token.Ident.{Ident}
-use Rattle.v_syntax.specs.declared.token.Token.{Token}
 use Rattle.v_syntax.specs.declared.token.Cast.{Cast}
 use Rattle.v_syntax.specs.declared.token.Lexeme.TheVariants as l
 use Rattle.v_syntax.specs.declared.expr.Expr.{Expr}
 use Rattle.v_syntax.specs.declared.expr.Expr.TheVariants as e
 use Rattle.v_syntax.specs.declared.expr.Expr.TheOpen as o
-use Rattle.v_syntax.specs.declared.expr.Expr.TheOpen.{Expr-F}
 use Rattle.v_syntax.specs.declared.expr.Expr.TheFolds.{para-roll-Expr}
 use Rattle.v_syntax.specs.declared.expr.Number.{Number}
-use Rattle.v_syntax.specs.declared.expr.Placed.{Placed}
 use Rattle.v_syntax.specs.declared.expr.UnaryOperator.{UnaryOperator}
 use Rattle.v_syntax.specs.declared.expr.BinaryOperator.{BinaryOperator}
-use Rattle.v_syntax.specs.Rule.{Rule, ◌>>=◌, ◌>>◌, ◌<|>◌, yields, many}
-use Rattle.v_syntax.specs.Grammar.{prefix, cast, between, IsNumber, placed, IsRange, IsLeaf, IsSelect, IsPart, IsGroup, IsConcat, IsReplicate, IsCast, IsPrefixed, IsOperandOver, chain, IsBinary, IsConditional, IsExprOver, nested, IsOperand, IsExpr}
+use Rattle.v_syntax.specs.Rule.{Rule, ◌>>=◌, yields}
+use Rattle.v_syntax.specs.Grammar.{prefix, cast, between, IsNumber, placed, IsRange, IsLeaf, IsSelect, IsPart, IsGroup, IsConcat, IsReplicate, IsCast, IsPrefixed, IsOperandOver, chain, IsBinary, IsConditional, nested, IsOperand, IsExpr}
 use Rattle.v_meaning.specs.declared.names.Entry.{Entry}
 use Rattle.v_meaning.specs.Sites.{Site, links_sites, parts_sites}
 use Rattle.v_places.specs.Openings.{number_opening, select_opening, opening_step, openings_of}
@@ -124,14 +121,14 @@ module _ (names : List Entry) where
   within_select : {expr : Rule Expr} → WithinExpr expr → WithinExpr (IsSelect expr)
   within_select p = record {
     takes = λ before after x d.
-      let index : Expr = d.3.3.1 in
-      let close = d.3.3.3 in
-      let own : Site = select_opening names d.1 index in
-      let is : openings_of names x ≡ own ∷ (openings_of names index ++ []) =
-          ap (openings_of names) close.3.1 ∙ at_select d.1 d.3.1 index ∙ ap (λ (r : List Site). own ∷ r) (sym (append-nil (openings_of names index))) in
-      subst (λ (r : List Site). Takes before after r) (sym is)
-      (takes_more (takes_one before d.0 _ own refl d.2) (takes_more (takes_token d.0 d.3.0 _ d.3.2)
-      (takes_more (p.takes d.3.0 d.3.3.0 index d.3.3.2) (takes_more (takes_token d.3.3.0 close.0 _ close.2) (takes_none close.0 after close.3.0)))));
+        let index : Expr = d.3.3.1 in
+        let close = d.3.3.3 in
+        let own : Site = select_opening names d.1 index in
+        let is : openings_of names x ≡ own ∷ (openings_of names index ++ []) =
+        ap (openings_of names) close.3.1 ∙ at_select d.1 d.3.1 index ∙ ap (λ (r : List Site). own ∷ r) (sym (append-nil (openings_of names index))) in
+        subst (λ (r : List Site). Takes before after r) (sym is)
+        (takes_more (takes_one before d.0 _ own refl d.2) (takes_more (takes_token d.0 d.3.0 _ d.3.2)
+        (takes_more (p.takes d.3.0 d.3.3.0 index d.3.3.2) (takes_more (takes_token d.3.3.0 close.0 _ close.2) (takes_none close.0 after close.3.0)))));
   }
 
   within_part : {expr : Rule Expr} → WithinExpr expr → WithinExpr (IsPart expr)

@@ -1,5 +1,5 @@
 -- Sites that stand one behind another are found by their places.
-use Rattle.std.proofs.Common.{◌≡◌, ◌≤◌, ◌<◌, ◌≢◌, ◌+◌, ℕ, zero, suc, Bool, true, false, if◌then◌else◌, ◌==◌, List, [], ◌∷◌, map, length, Some, None, All, slice_get, get_or, slice_index, add-one, one-add, refl, sym, ap, subst, ◌∙◌, le_trans, arith}
+use Rattle.std.proofs.Common.{◌≡◌, ◌≤◌, ◌<◌, ◌≢◌, ◌+◌, ℕ, zero, suc, Bool, true, false, ◌==◌, if◌then◌else◌, List, [], ◌∷◌, map, length, Some, All, slice_get, get_or, add-one, one-add, refl, sym, ap, subst, ◌∙◌, arith}
 use Rattle.std.specs.List.Sorted.{IsStrictlyIncreasing}
 use Rattle.std.proofs.lemmas.Bool.{eq-eqb, eqb-true}
 use Rattle.std.proofs.lemmas.Option.{slice_get-get_or}
@@ -10,7 +10,7 @@ use Rattle.v_syntax.specs.ModuleGrammar.{Derives}
 use Rattle.v_meaning.specs.declared.names.Entry.{Entry}
 use Rattle.v_meaning.specs.Expressions.{number_of_place}
 use Rattle.v_meaning.specs.Sites.{Site, module_sites}
-use Rattle.v_places.specs.Openings.{module_openings, place_of, width_of, bits_read}
+use Rattle.v_places.specs.Openings.{module_openings, place_of, bits_read}
 use Rattle.v_places.proofs.Spans.{Spans, spans_behind}
 use Rattle.v_places.proofs.Modules.{takes_module}
 use Rattle.v_places.proofs.Thinning.{Thins, none, keep, drop, thin_module}

@@ -1,13 +1,11 @@
 -- What a production takes: its tokens, and among their places those of its sites, one behind another.
-use Rattle.std.proofs.Common.{◌≡◌, ◌≤◌, ◌<◌, ◌+◌, ℕ, List, [], ◌∷◌, ◌++◌, flat_map, Bool, true, false, Option, Some, None, refl, sym, ap, subst, ◌∙◌, inl, inr, append_assoc, append-nil, le_refl, le_trans, arith}
+use Rattle.std.proofs.Common.{◌≡◌, ◌≤◌, ◌+◌, ℕ, List, [], ◌∷◌, ◌++◌, flat_map, Option, Some, None, refl, sym, ap, subst, ◌∙◌, inl, inr, append_assoc, append-nil, le_refl, le_trans, arith}
 use Rattle.std.proofs.lemmas.List.Concat.{flat_map-cons}
-use Rattle.v_syntax.specs.declared.token.Ident.{Ident}
 use Rattle.v_syntax.specs.declared.token.Token.{Token}
 use Rattle.v_syntax.specs.declared.token.Lexeme.{Lexeme}
 use Rattle.v_syntax.specs.declared.token.Keyword.{Keyword}
-use Rattle.v_syntax.specs.declared.token.Mark.TheVariants as m
 use Rattle.v_syntax.specs.Tokens.{AreTokens}
-use Rattle.v_syntax.specs.Rule.{Rule, ◌>>=◌, ◌>>◌, ◌<|>◌, yields, token, mark, word, ident, here, optional, flag, many, several, listed}
+use Rattle.v_syntax.specs.Rule.{Rule, ◌>>=◌, ◌<|>◌, yields, token, ident, here, optional, flag, many, several, listed}
 use Rattle.v_meaning.specs.Sites.{Site}
 
 -- they stand one behind another, from one place on and below another
@@ -41,18 +39,18 @@ takes_none before after same = subst (λ (l : List Token). Takes before l []) sa
 pub takes_more : {before mid after : List Token} {xs ys : List Site} → Takes before mid xs → Takes mid after ys → Takes before after (xs ++ ys)
 takes_more {xs = xs} {ys = ys} p q = record {
   spans = λ from end h.
-    let first = p.spans from end h in
-    let second = q.spans first.0 end first.1 in
-    (second.0, second.1, spans_more from first.0 second.0 xs ys first.2 second.2);
+      let first = p.spans from end h in
+      let second = q.spans first.0 end first.1 in
+      (second.0, second.1, spans_more from first.0 second.0 xs ys first.2 second.2);
 }
 
 -- a token, and what stands at it
 pub takes_one : (before after : List Token) (t : Token) (s : Site) → s.at ≡ t.at → before ≡ t ∷ after → Takes before after (s ∷ [])
 takes_one before after t s at is = subst (λ (l : List Token). Takes l after (s ∷ [])) (sym is) (record {
   spans = λ from end h.
-    let there : from ≤ s.at = subst (λ (n : ℕ). from ≤ n) (sym at) h.1 in
-    let past : s.at + 1 ≤ t.at + 1 = omega arith in
-    (t.at + 1, h.3, (there, past));
+      let there : from ≤ s.at = subst (λ (n : ℕ). from ≤ n) (sym at) h.1 in
+      let past : s.at + 1 ≤ t.at + 1 = omega arith in
+      (t.at + 1, h.3, (there, past));
 })
 
 pub takes_forgotten : {before after : List Token} {xs : List Site} → Takes before after xs → Takes before after []
@@ -80,8 +78,8 @@ pub behind_bind : {A B : Type 0} {P : Rule A} {Q : A → Rule B} {f : A → List
     Within P f → ((a : A) → Behind (front ++ f a) (Q a) g) → Behind front (P >>= Q) g
 behind_bind {f = f} {front = front} p q = record {
   rest = λ before after b d.
-    let r = (q d.1).rest d.0 after b d.3 in
-    (f d.1 ++ r.0, r.1 ∙ append_assoc front (f d.1) r.0, takes_more (p.takes before d.0 d.1 d.2) r.2);
+      let r = (q d.1).rest d.0 after b d.3 in
+      (f d.1 ++ r.0, r.1 ∙ append_assoc front (f d.1) r.0, takes_more (p.takes before d.0 d.1 d.2) r.2);
 }
 
 -- the same of what holds no site
@@ -89,8 +87,8 @@ pub behind_then : {A B : Type 0} {P : Rule A} {Q : A → Rule B} {g : B → List
     Within P (λ _. []) → ((a : A) → Behind front (Q a) g) → Behind front (P >>= Q) g
 behind_then p q = record {
   rest = λ before after b d.
-    let r = (q d.1).rest d.0 after b d.3 in
-    (r.0, r.1, takes_more (p.takes before d.0 d.1 d.2) r.2);
+      let r = (q d.1).rest d.0 after b d.3 in
+      (r.0, r.1, takes_more (p.takes before d.0 d.1 d.2) r.2);
 }
 
 pub behind_yields : {B : Type 0} {b : B} {g : B → List Site} {front : List Site} → g b ≡ front → Behind front (yields b) g

@@ -2,20 +2,17 @@
 use Rattle.std.proofs.Common.{◌≡◌, ℕ, zero, suc, List, [], ◌∷◌, ◌++◌, map, flat_map, refl, sym, ap, subst, ◌∙◌, inl, inr, append-nil}
 use Rattle.std.proofs.lemmas.List.Concat.{flat_map-cons}
 use Rattle.v_syntax.specs.declared.token.Ident.{Ident}
-use Rattle.v_syntax.specs.declared.token.Token.{Token}
 use Rattle.v_syntax.specs.declared.token.Cast.{Cast}
 use Rattle.v_syntax.specs.declared.token.Lexeme.TheVariants as l
 use Rattle.v_syntax.specs.declared.expr.Expr.{Expr}
 use Rattle.v_syntax.specs.declared.expr.Expr.TheVariants as e
 use Rattle.v_syntax.specs.declared.expr.Expr.TheOpen as o
-use Rattle.v_syntax.specs.declared.expr.Expr.TheOpen.{Expr-F}
 use Rattle.v_syntax.specs.declared.expr.Expr.TheFolds.{para-roll-Expr}
 use Rattle.v_syntax.specs.declared.expr.Number.{Number}
-use Rattle.v_syntax.specs.declared.expr.Placed.{Placed}
 use Rattle.v_syntax.specs.declared.expr.UnaryOperator.{UnaryOperator}
 use Rattle.v_syntax.specs.declared.expr.BinaryOperator.{BinaryOperator}
-use Rattle.v_syntax.specs.Rule.{Rule, ◌>>=◌, ◌>>◌, ◌<|>◌, yields, many}
-use Rattle.v_syntax.specs.Grammar.{prefix, cast, between, IsNumber, placed, IsRange, IsLeaf, IsSelect, IsPart, IsGroup, IsConcat, IsReplicate, IsCast, IsPrefixed, IsOperandOver, chain, IsBinary, IsConditional, IsExprOver, nested, IsOperand, IsExpr}
+use Rattle.v_syntax.specs.Rule.{Rule, ◌>>=◌, yields}
+use Rattle.v_syntax.specs.Grammar.{prefix, cast, between, IsNumber, placed, IsRange, IsLeaf, IsSelect, IsPart, IsGroup, IsConcat, IsReplicate, IsCast, IsPrefixed, IsOperandOver, chain, IsBinary, IsConditional, nested, IsOperand, IsExpr}
 use Rattle.v_meaning.specs.declared.names.Entry.{Entry}
 use Rattle.v_meaning.specs.Sites.{Site, links_sites, parts_sites}
 use Rattle.v_places.specs.Openings.{number_opening, select_opening, opening_step, openings_of}

@@ -4,3 +4,4 @@ pub mod Stmts
 pub mod Modules
 pub mod Thinning
 pub mod Found
+pub mod PlaceRows

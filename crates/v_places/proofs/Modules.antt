@@ -1,22 +1,20 @@
 -- The openings of a module are at its tokens, one behind another.
-use Rattle.std.proofs.Common.{◌≡◌, ℕ, Bool, true, false, List, [], ◌∷◌, ◌++◌, flat_map, Option, Some, None, refl}
+use Rattle.std.proofs.Common.{false, List, [], refl}
 use Rattle.v_syntax.specs.declared.token.Token.{Token}
-use Rattle.v_syntax.specs.declared.expr.Placed.{Placed}
 use Rattle.v_syntax.specs.declared.module.Setting.{Setting}
 use Rattle.v_syntax.specs.declared.module.Declared.{Declared}
 use Rattle.v_syntax.specs.declared.module.PortKind.{PortKind}
 use Rattle.v_syntax.specs.declared.module.PortKind.TheVariants as p
 use Rattle.v_syntax.specs.declared.module.Module.{Module}
-use Rattle.v_syntax.specs.Tokens.{AreTokens}
-use Rattle.v_syntax.specs.Rule.{Rule, optional}
+use Rattle.v_syntax.specs.Rule.{optional}
 use Rattle.v_syntax.specs.Grammar.{inner_levels, IsRange}
 use Rattle.v_syntax.specs.StmtGrammar.{IsWhole}
-use Rattle.v_syntax.specs.ModuleGrammar.{IsValue, IsSetting, IsDeclared, IsBare, IsVariable, IsSettings, IsParameterGroup, IsPortKind, IsPort, IsPortGroup, IsParameters, IsPortList, IsPorts, IsParameterItem, IsLocalParameterItem, IsWireItem, IsRegItem, IsAssignItem, IsAnyEvent, IsPosedge, IsEventGroup, IsAlwaysItem, IsItem, IsModule, Derives}
+use Rattle.v_syntax.specs.ModuleGrammar.{IsValue, IsSetting, IsDeclared, IsBare, IsVariable, IsSettings, IsParameterGroup, IsPortKind, IsPort, IsPortGroup, IsParameters, IsPortList, IsPorts, IsAnyEvent, IsPosedge, IsEventGroup, IsItem, IsModule, Derives}
 use Rattle.v_meaning.specs.declared.names.Entry.{Entry}
 use Rattle.v_meaning.specs.Sites.{Site}
 use Rattle.v_places.specs.Openings.{openings_of, value_openings, item_openings, module_openings}
-use Rattle.v_places.proofs.Spans.{Spans, Takes, Within, within_whole, behind_bind, behind_then, behind_yields, behind_or, behind_nothing, within_or, within_none, within_token, within_ident, within_yields, within_many, within_listed, within_optional, within_flag}
-use Rattle.v_places.proofs.Exprs.{WithinExpr, within_placed, within_range}
+use Rattle.v_places.proofs.Spans.{Takes, Within, within_whole, behind_bind, behind_then, behind_yields, behind_or, behind_nothing, within_or, within_none, within_token, within_ident, within_yields, within_many, within_listed, within_optional, within_flag}
+use Rattle.v_places.proofs.Exprs.{within_placed, within_range}
 use Rattle.v_places.proofs.Stmts.{within_whole_expr, within_stmt}
 
 module _ (names : List Entry) where
@@ -123,8 +121,5 @@ module _ (names : List Entry) where
       (behind_then within_token λ _. behind_then within_ident λ name. behind_then within_parameters λ parameters. behind_then within_ports λ ports.
       behind_then within_token λ _. behind_bind (within_many within_item) λ items. behind_then within_token λ _. behind_yields refl)
 
-  takes_module : (tokens : List Token) (m : Module) → Derives tokens m → Takes tokens [] (module_openings names m.items)
+  pub takes_module : (tokens : List Token) (m : Module) → Derives tokens m → Takes tokens [] (module_openings names m.items)
   takes_module tokens m d = within_module.takes tokens [] m d
-
-  pub openings_span : (from end : ℕ) (tokens : List Token) (m : Module) → AreTokens from end tokens → Derives tokens m → (to : ℕ) × Spans from (module_openings names m.items) to
-  openings_span from end tokens m are d = let r = (takes_module tokens m d).spans from end are in (r.0, r.2)

@@ -1,13 +1,11 @@
 -- What a production takes: its tokens, and among their places those of its sites, one behind another.
-use Rattle.std.proofs.Common.{◌≡◌, ◌≤◌, ◌<◌, ◌+◌, ℕ, List, [], ◌∷◌, ◌++◌, flat_map, Bool, true, false, Option, Some, None, refl, sym, ap, subst, ◌∙◌, inl, inr, append_assoc, append-nil, le_refl, le_trans, arith}
+use Rattle.std.proofs.Common.{◌≡◌, ◌≤◌, ◌+◌, ℕ, List, [], ◌∷◌, ◌++◌, flat_map, Option, Some, None, refl, sym, ap, subst, ◌∙◌, inl, inr, append_assoc, append-nil, le_refl, le_trans, arith}
 use Rattle.std.proofs.lemmas.List.Concat.{flat_map-cons}
-use Rattle.v_syntax.specs.declared.token.Ident.{Ident}
 use Rattle.v_syntax.specs.declared.token.Token.{Token}
 use Rattle.v_syntax.specs.declared.token.Lexeme.{Lexeme}
 use Rattle.v_syntax.specs.declared.token.Keyword.{Keyword}
-use Rattle.v_syntax.specs.declared.token.Mark.TheVariants as m
 use Rattle.v_syntax.specs.Tokens.{AreTokens}
-use Rattle.v_syntax.specs.Rule.{Rule, ◌>>=◌, ◌>>◌, ◌<|>◌, yields, token, mark, word, ident, here, optional, flag, many, several, listed}
+use Rattle.v_syntax.specs.Rule.{Rule, ◌>>=◌, ◌<|>◌, yields, token, ident, here, optional, flag, many, several, listed}
 use Rattle.v_meaning.specs.Sites.{Site}
 
 -- they stand one behind another, from one place on and below another

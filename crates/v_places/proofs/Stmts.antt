@@ -18,7 +18,7 @@ use Rattle.v_syntax.specs.declared.stmt.Stmt.TheOpen as o
 use Rattle.v_syntax.specs.declared.stmt.Stmt.TheFolds.{fold-Arm, fold-roll-Stmt, fold-roll-Arm}
 use Rattle.v_syntax.specs.Rule.{Rule}
 use Rattle.v_syntax.specs.Grammar.{inner_levels}
-use Rattle.v_syntax.specs.StmtGrammar.{IsWhole, IsSelected, IsPlace, IsBraced, IsTarget, IsAssignKind, IsAssign, IsNull, IsBlock, IsEmptyBlock, IsCondition, IsCaseKind, IsLabel, IsArm, IsCase, IsIf, IsIfElse, IsFlat, IsSimple, unless, IsStmt}
+use Rattle.v_syntax.specs.StmtGrammar.{IsWhole, IsPlace, IsBraced, IsTarget, IsAssignKind, IsAssign, IsNull, IsBlock, IsEmptyBlock, IsCondition, IsCaseKind, IsLabel, IsArm, IsCase, IsIf, IsIfElse, IsSimple, unless, IsStmt}
 use Rattle.v_meaning.specs.declared.names.Entry.{Entry}
 use Rattle.v_meaning.specs.Declarations.{joined_lists}
 use Rattle.v_meaning.specs.Sites.{Site}
@@ -68,9 +68,6 @@ module _ (names : List Entry) where
   within_target (suc levels) = within_or (within_braced (within_target levels)) within_place
 
   -- ---- statements
-
-  abbrev StmtOpenings : Stmt → List Site
-  StmtOpenings = stmt_openings names
 
   stmt_null : stmt_openings names s.Null ≡ []
   stmt_null = ap (stmt_openings names) (sym s.rolls-Null) ∙ fold-roll-Stmt (List Site) (List Site) (stmt_opening_step names) (arm_opening_step names) o.Null

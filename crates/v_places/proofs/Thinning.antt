@@ -1,6 +1,7 @@
 -- The sites of a module are its openings without those that have no open bits.
-use Rattle.std.proofs.Common.{◌≡◌, ℕ, zero, suc, Bool, true, false, if◌then◌else◌, List, [], ◌∷◌, ◌++◌, map, flat_map, Option, Some, None, refl, sym, subst, ap, ◌∙◌}
+use Rattle.std.proofs.Common.{◌≡◌, ℕ, zero, suc, Bool, true, false, if◌then◌else◌, List, [], ◌∷◌, ◌++◌, map, flat_map, Option, Some, None, All, Contains, refl, sym, subst}
 use Rattle.std.proofs.lemmas.List.Concat.{flat_map-cons}
+use Rattle.std.proofs.lemmas.List.Elements.{All-nil, All-cons, All-weaker, Contains-append_left, Contains-append_right, Contains-push}
 use Rattle.v_syntax.specs.declared.expr.Expr.{Expr}
 use Rattle.v_syntax.specs.declared.expr.Expr.TheOpen.{Expr-F}
 use Rattle.v_syntax.specs.declared.expr.Expr.TheOpen as o
@@ -42,6 +43,15 @@ thins_more (drop s w p) q = drop s w (thins_more p q)
 
 thins_same : {a b c d : List Site} → a ≡ b → c ≡ d → Thins b d → Thins a c
 thins_same {b = b} {c = c} p q h = subst (λ (x : List Site). Thins x c) (sym p) (subst (λ (x : List Site). Thins b x) (sym q) h)
+
+-- what is left was there
+thins_among : {xs ys : List Site} → Thins xs ys → All (Contains xs) ys
+thins_among none = All-nil (Contains [])
+thins_among (keep s {xs = xs} {ys = ys} p) =
+    All-cons (Contains (s ∷ xs)) s ys (Contains-append_left (s ∷ []) xs s (Contains-push [] s))
+    (All-weaker (Contains xs) (Contains (s ∷ xs)) (λ x there. Contains-append_right (s ∷ []) xs x there) ys (thins_among p))
+thins_among (drop s {xs = xs} {ys = ys} w p) =
+    All-weaker (Contains xs) (Contains (s ∷ xs)) (λ x there. Contains-append_right (s ∷ []) xs x there) ys (thins_among p)
 
 thins_each : {A : Type 0} (f g : A → List Site) → ((x : A) → Thins (f x) (g x)) → (xs : List A) → Thins (flat_map f xs) (flat_map g xs)
 thins_each f g one [] = none
@@ -215,3 +225,6 @@ module _ (names : List Entry) where
 
   pub thin_module : (items : List Item) → Thins (module_openings names items) (module_sites names items)
   thin_module items = thins_each (item_openings names) (item_sites names) thin_item items
+
+  pub sites_among : (items : List Item) → All (Contains (module_openings names items)) (module_sites names items)
+  sites_among items = thins_among (thin_module items)

@@ -1,4 +1,4 @@
-ghost use Rattle.std.specs.Prelude.{◌≡◌, ℕ, List, Some, All, map, length, slice_get};
+ghost use Rattle.std.specs.Prelude.{◌≡◌, ℕ, List, Some, All, Contains, map, length, slice_get};
 ghost use Rattle.std.specs.List.Sorted.{IsStrictlyIncreasing};
 ghost use Rattle.v_syntax.specs.declared.token.Token.{Token};
 ghost use Rattle.v_syntax.specs.declared.module.Module.{Module};
@@ -23,7 +23,8 @@ pub fn sites_are_found()
 {}
 
 /// Law: at the place of each number and each select of such a module that a cycle looks at, as many bits are read as are
-/// open there, which are none where it is no site (IEEE Std 1364-2005, 3.5.1, 5.2.1 and 5.2.2).
+/// open there, which are none where it is no site (IEEE Std 1364-2005, 3.5.1, 5.2.1 and 5.2.2). Each site is one of these.
 pub fn open_bits_are_read()
-    ensures { (from end : ℕ) (tokens : List Token) (m : Module) → AreTokens from end tokens → Derives tokens m → (names : List Entry) → All (λ s. bits_read (module_sites names m.items) s.at ≡ s.width) (module_openings names m.items) }
+    ensures read { (from end : ℕ) (tokens : List Token) (m : Module) → AreTokens from end tokens → Derives tokens m → (names : List Entry) → All (λ s. bits_read (module_sites names m.items) s.at ≡ s.width) (module_openings names m.items) }
+    ensures sites { (m : Module) (names : List Entry) → All (Contains (module_openings names m.items)) (module_sites names m.items) }
 {}

@@ -5,3 +5,4 @@ pub mod SoundExprs
 pub mod SoundItems
 pub mod TypedDesigns
 pub mod Formed
+pub mod CopiedNames

@@ -7,6 +7,7 @@ ghost use Rattle.v_meaning.specs.Sites.{module_sites};
 ghost use Rattle.v_meaning.specs.Modules.{design_of};
 ghost use Rattle.v_core.specs.Cores.{design_in};
 ghost use Rattle.v_core.specs.FormedCores.{is_formed_core};
+ghost use Rattle.v_names.specs.Words.{AreWords};
 ghost use Rattle.v_typing.specs.Sound.{are_sound_items};
 ghost use Rattle.v_sites.specs.Found.{site_in};
 
@@ -36,13 +37,14 @@ pub fn typed(alloc: Global, names: &Names, module: &Module) -> Result<Core, OutO
     ensures names { IfOk result (λ core. core.names ≡ names_of «module».now) }
     ensures sites { IfOk result (λ core. map site_in core.sites ≡ module_sites names.now «module».now.items) }
     ensures form { IfOk result (λ core. is_formed_core core ≡ true) }
+    ensures words { IfOk result (λ core. AreWords core.names) }
 {
     let found = sites(alloc, names, module)?;
     let places = site_places(alloc, found.as_slice())?;
     let parts = parts_of(alloc, names, &places, module.items.as_slice())?;
     let outputs = outputs_of(alloc, names, module.ports.as_slice())?;
     let name = module.name.name.clone()?;
-    let entries = copy_of(alloc, names.entries())?;
+    let entries = copy_of(alloc, names)?;
     Ok(Core {
         name,
         names: entries,
@@ -64,6 +66,7 @@ pub fn elaborate(alloc: Global, module: &Module) -> Result<Core, Stop>
     ensures names { IfOk result (λ core. core.names ≡ names_of «module».now) }
     ensures sites { IfOk result (λ core. map site_in core.sites ≡ module_sites (names_of «module».now) «module».now.items) }
     ensures form { IfOk result (λ core. is_formed_core core ≡ true) }
+    ensures words { IfOk result (λ core. AreWords core.names) }
 {
     let names = declared_names(alloc, module)?;
     Ok(typed(alloc, &names, module)?)

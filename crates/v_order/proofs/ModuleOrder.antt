@@ -31,7 +31,7 @@ use Rattle.v_meaning.specs.Modules.{net_assign, wire_assign, item_assigns, desig
 use Rattle.v_meaning.specs.Marks.{module_marks}
 use Rattle.v_meaning.specs.MarkRules.{place_if, declared_twice}
 use Rattle.v_meaning.specs.Uses.{AssignUse, Uses, reads_of, wire_use, item_assign_uses, uses_of}
-use Rattle.v_meaning.specs.ProcessRules.{reads_in, ident_names, places_if, is_net, assign_targets, assigned_again, never_assigned, assigned_names, wrong_target, wrong_assigns, combinational_of, circular, read_through}
+use Rattle.v_meaning.specs.ProcessRules.{reads_in, ident_names, places_if, is_net, assign_targets, assigned_again, never_assigned, assigned_names, wrong_target, wrong_assigns, combinational_of, circular, read_through, written_again, read_elsewhere, clocked_of}
 use Rattle.v_meaning.specs.Broken.{places_of, fault_or, first_fault, typing_rules, process_rules}
 use Rattle.v_uses.specs.Seen.{AssignSeen, Seen, assign_seen, seen_of}
 use Rattle.v_depends.specs.Nodes.{is_in}
@@ -71,6 +71,8 @@ pub record Keeps (m : Module) : Type 0 where
   pub assigns : wrong_assigns (uses_of (names_of m) m) ≡ []
   pub acyclic : circular (uses_of (names_of m) m) ≡ []
   pub through : read_through (uses_of (names_of m) m) ≡ []
+  pub owned : written_again [] (uses_of (names_of m) m).processes ≡ []
+  pub unseen : read_elsewhere [] (clocked_of (uses_of (names_of m) m)) ≡ []
 
 pub keeps : (m : Module) → first_fault (places_of m) typing_rules ≡ None → first_fault (places_of m) process_rules ≡ None → Keeps m
 keeps m typed kept =
@@ -84,7 +86,7 @@ keeps m typed kept =
     let p7 = fault_none r.P7 (places r.P7) (first_fault places (r.P8 ∷ r.P9 ∷ r.P10 ∷ r.W1 ∷ [])) p6.1 in
     let p8 = fault_none r.P8 (places r.P8) (first_fault places (r.P9 ∷ r.P10 ∷ r.W1 ∷ [])) p7.1 in
     let e4 = fault_none r.E4 (places r.E4) (first_fault places (r.E5 ∷ r.E6 ∷ r.E7 ∷ r.E8 ∷ r.E9 ∷ r.E10 ∷ r.E11 ∷ r.E12 ∷ r.E13 ∷ [])) typed in
-    record { once = no_first (declared_twice [] (module_marks (names_of m) m)) [] e4.0; targets = p2.0; assigns = p6.0; acyclic = p7.0; through = p8.0 }
+    record { once = no_first (declared_twice [] (module_marks (names_of m) m)) [] e4.0; targets = p2.0; assigns = p6.0; acyclic = p7.0; through = p8.0; owned = p3.0; unseen = p5.0 }
 
 -- ---- names
 

@@ -55,7 +55,7 @@ is_steady = (
   },
   (
     record {
-      writes = tt;
+      writes = (λ v. (tt, tt), tt);
       nets = 0 ∷ [];
       looks = (λ v w a i. word_to 1 (a.words 0 refl i + slice_index (a.store i).variables 0), tt);
       alike = λ inputs sites s t a net there. net_case inputs sites s t a net;

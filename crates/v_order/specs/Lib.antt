@@ -3,3 +3,5 @@ pub mod Reads
 pub mod Stepping
 pub mod Steady
 pub mod Numbered
+pub mod Apart
+pub mod Counting

@@ -14,16 +14,24 @@ pub record AgreeOn (nets : List ℕ) (v w : View) : Type 0 where
   pub sites : v.sites ≡ w.sites
   pub words : (net : ℕ) → is_in net nets ≡ true → slice_index v.nets net ≡ slice_index w.nets net
 
+-- it is the same in views that are alike
+abbrev pub Respects : {A : Type 0} → (View → View → Type 0) → (View → A) → Type 0
+Respects AreAlike f = (v w : View) → AreAlike v w → f v ≡ f w
+
+-- so are all branches that these acts choose, and all writes that they make
+abbrev pub ActsRespect : (View → View → Type 0) → Acts → Type 0
+ActsRespect AreAlike End = ⊤
+ActsRespect AreAlike (Branch f rest) = Respects AreAlike f × ((v : View) → ActsRespect AreAlike (f v)) × ActsRespect AreAlike rest
+ActsRespect AreAlike (Blocking f rest) = Respects AreAlike f × ActsRespect AreAlike rest
+ActsRespect AreAlike (Nonblocking f rest) = Respects AreAlike f × ActsRespect AreAlike rest
+
 -- of all nets it looks only at these: it is the same in views that differ in other nets alone
 abbrev pub LooksOnlyAt : {A : Type 0} → List ℕ → (View → A) → Type 0
-LooksOnlyAt nets f = (v w : View) → AgreeOn nets v w → f v ≡ f w
+LooksOnlyAt nets f = Respects (AgreeOn nets) f
 
 -- so do all branches that these acts choose, and all writes that they make
 abbrev pub ActsLookOnlyAt : List ℕ → Acts → Type 0
-ActsLookOnlyAt nets End = ⊤
-ActsLookOnlyAt nets (Branch f rest) = LooksOnlyAt nets f × ((v : View) → ActsLookOnlyAt nets (f v)) × ActsLookOnlyAt nets rest
-ActsLookOnlyAt nets (Blocking f rest) = LooksOnlyAt nets f × ActsLookOnlyAt nets rest
-ActsLookOnlyAt nets (Nonblocking f rest) = LooksOnlyAt nets f × ActsLookOnlyAt nets rest
+ActsLookOnlyAt nets acts = ActsRespect (AgreeOn nets) acts
 
 -- ---- orders
 

@@ -19,17 +19,27 @@ is_written b (Net k) = false
 is_written b (Variable k) = is_in k b.variables
 is_written b (Word k i) = is_in k b.memories
 
--- writes to nothing else
-abbrev pub AreWithin : AtOnce → List Write → Type 0
-AreWithin b [] = ⊤
-AreWithin b (w ∷ writes) = (is_written b w.place ≡ true) × AreWithin b writes
+-- writes to such places alone
+abbrev pub AreTo : (Place → Type 0) → List Write → Type 0
+AreTo Is [] = ⊤
+AreTo Is (w ∷ writes) = Is w.place × AreTo Is writes
+
+-- the blocking assignments of these acts write only the first places, and the nonblocking ones only the second, in every view
+abbrev pub WritesTo : (Place → Type 0) → (Place → Type 0) → Acts → Type 0
+WritesTo IsNow IsLater End = ⊤
+WritesTo IsNow IsLater (Branch f rest) = ((v : View) → WritesTo IsNow IsLater (f v)) × WritesTo IsNow IsLater rest
+WritesTo IsNow IsLater (Blocking f rest) = ((v : View) → AreTo IsNow (f v)) × WritesTo IsNow IsLater rest
+WritesTo IsNow IsLater (Nonblocking f rest) = ((v : View) → AreTo IsLater (f v)) × WritesTo IsNow IsLater rest
+
+abbrev pub IsWritten : AtOnce → Place → Type 0
+IsWritten b place = is_written b place ≡ true
+
+abbrev pub IsAny : Place → Type 0
+IsAny place = ⊤
 
 -- the blocking assignments of these acts write nothing else, in every view
 abbrev pub WritesOnlyIn : AtOnce → Acts → Type 0
-WritesOnlyIn b End = ⊤
-WritesOnlyIn b (Branch f rest) = ((v : View) → WritesOnlyIn b (f v)) × WritesOnlyIn b rest
-WritesOnlyIn b (Blocking f rest) = ((v : View) → AreWithin b (f v)) × WritesOnlyIn b rest
-WritesOnlyIn b (Nonblocking f rest) = WritesOnlyIn b rest
+WritesOnlyIn b acts = WritesTo (IsWritten b) IsAny acts
 
 -- two stores that differ in these alone
 pub record AgreeBut (b : AtOnce) (s t : Store) : Type 0 where

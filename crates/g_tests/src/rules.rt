@@ -3,7 +3,6 @@ use g_rules::{
     and_same, and_subsume, apply, xor_cancel, xor_constant, xor_order, xor_same, xor_signs,
 };
 use lz_base::Num;
-use std::test::Fail;
 
 // One gate, at a node.
 #[derive(Drop)]
@@ -26,52 +25,77 @@ impl Gates for OneGate {
     }
 }
 
-fn left(shape: Shape, invert: bool) -> Outcome {
-    Outcome::Gate { shape, invert }
+// The gate below a shape, at node 3, the shape, and what all rules leave of it.
+const LEFT: &[(Shape, Shape, Outcome)] = &[
+    (Shape::And(2, 4), Shape::And(2, 2), Outcome::Literal(2)),
+    (Shape::And(2, 4), Shape::Xor(2, 2), Outcome::Literal(0)),
+    (
+        Shape::And(2, 4),
+        Shape::And(4, 2),
+        Outcome::Gate {
+            shape: Shape::And(2, 4),
+            invert: false,
+        },
+    ),
+    (
+        Shape::And(2, 4),
+        Shape::Xor(4, 3),
+        Outcome::Gate {
+            shape: Shape::Xor(2, 4),
+            invert: true,
+        },
+    ),
+    (Shape::And(2, 4), Shape::And(2, 6), Outcome::Literal(6)),
+    (
+        Shape::And(2, 4),
+        Shape::And(2, 7),
+        Outcome::Gate {
+            shape: Shape::And(2, 5),
+            invert: false,
+        },
+    ),
+    (Shape::And(2, 4), Shape::And(7, 3), Outcome::Literal(3)),
+    (Shape::Xor(2, 4), Shape::Xor(6, 3), Outcome::Literal(5)),
+];
+
+fn is_left(book: &RuleBook, case: &(Shape, Shape, Outcome)) -> bool {
+    let below = OneGate {
+        node: 3,
+        shape: case.0,
+    };
+    apply(book, &below, case.1) == case.2
 }
 
 #[test]
-fn rewrites(rt: HostRuntime) -> Result<(), Fail> {
+fn rewrites(rt: HostRuntime) {
     let alloc = rt.alloc();
-    let gates = OneGate {
-        node: 3,
-        shape: Shape::And(2, 4),
-    };
-    let sums = OneGate {
-        node: 3,
-        shape: Shape::Xor(2, 4),
-    };
     let mut book = RuleBook::new(alloc);
-    assert_eq!(rt;
-        apply(&book, &gates, Shape::And(2, 2)),
-        left(Shape::And(2, 2), false)
-    );
-    book.push(GateRule::new(Box::new(alloc, |s: Shape| and_constant(s))?))?;
-    book.push(GateRule::new(Box::new(alloc, |s: Shape| and_same(s))?))?;
-    book.push(GateRule::new(Box::new(alloc, |s: Shape| and_order(s))?))?;
-    book.push(GateRule::new(Box::new(alloc, |s: Shape| xor_constant(s))?))?;
-    book.push(GateRule::new(Box::new(alloc, |s: Shape| xor_same(s))?))?;
-    book.push(GateRule::new(Box::new(alloc, |s: Shape| xor_signs(s))?))?;
-    book.push(GateRule::new(Box::new(alloc, |s: Shape| xor_order(s))?))?;
-    book.push_deep(DeepRule::new(Box::new(alloc, |d: Deep| and_absorb(d))?))?;
-    book.push_deep(DeepRule::new(Box::new(alloc, |d: Deep| and_subsume(d))?))?;
-    book.push_deep(DeepRule::new(Box::new(alloc, |d: Deep| xor_cancel(d))?))?;
-    assert_eq!(rt; apply(&book, &gates, Shape::And(2, 2)), Outcome::Literal(2));
-    assert_eq!(rt; apply(&book, &gates, Shape::Xor(2, 2)), Outcome::Literal(0));
-    assert_eq!(rt;
-        apply(&book, &gates, Shape::And(4, 2)),
-        left(Shape::And(2, 4), false)
-    );
-    assert_eq!(rt;
-        apply(&book, &gates, Shape::Xor(4, 3)),
-        left(Shape::Xor(2, 4), true)
-    );
-    assert_eq!(rt; apply(&book, &gates, Shape::And(2, 6)), Outcome::Literal(6));
-    assert_eq!(rt;
-        apply(&book, &gates, Shape::And(2, 7)),
-        left(Shape::And(2, 5), false)
-    );
-    assert_eq!(rt; apply(&book, &gates, Shape::And(7, 3)), Outcome::Literal(3));
-    assert_eq!(rt; apply(&book, &sums, Shape::Xor(6, 3)), Outcome::Literal(5));
-    Ok(())
+    let kept = Outcome::Gate {
+        shape: Shape::And(2, 2),
+        invert: false,
+    };
+    assert!(rt; is_left(&book, &(Shape::And(2, 4), Shape::And(2, 2), kept)));
+    let rule = Box::new(alloc, |s: Shape| and_constant(s)).expect(&rt, "memory");
+    book.push(GateRule::new(rule)).expect(&rt, "memory");
+    let rule = Box::new(alloc, |s: Shape| and_same(s)).expect(&rt, "memory");
+    book.push(GateRule::new(rule)).expect(&rt, "memory");
+    let rule = Box::new(alloc, |s: Shape| and_order(s)).expect(&rt, "memory");
+    book.push(GateRule::new(rule)).expect(&rt, "memory");
+    let rule = Box::new(alloc, |s: Shape| xor_constant(s)).expect(&rt, "memory");
+    book.push(GateRule::new(rule)).expect(&rt, "memory");
+    let rule = Box::new(alloc, |s: Shape| xor_same(s)).expect(&rt, "memory");
+    book.push(GateRule::new(rule)).expect(&rt, "memory");
+    let rule = Box::new(alloc, |s: Shape| xor_signs(s)).expect(&rt, "memory");
+    book.push(GateRule::new(rule)).expect(&rt, "memory");
+    let rule = Box::new(alloc, |s: Shape| xor_order(s)).expect(&rt, "memory");
+    book.push(GateRule::new(rule)).expect(&rt, "memory");
+    let rule = Box::new(alloc, |d: Deep| and_absorb(d)).expect(&rt, "memory");
+    book.push_deep(DeepRule::new(rule)).expect(&rt, "memory");
+    let rule = Box::new(alloc, |d: Deep| and_subsume(d)).expect(&rt, "memory");
+    book.push_deep(DeepRule::new(rule)).expect(&rt, "memory");
+    let rule = Box::new(alloc, |d: Deep| xor_cancel(d)).expect(&rt, "memory");
+    book.push_deep(DeepRule::new(rule)).expect(&rt, "memory");
+    for case in LEFT {
+        assert!(rt; is_left(&book, case), "{case:?}");
+    }
 }

@@ -1,8 +1,6 @@
 use g_text::{ProposalEnd, print, print_proposal, read, read_proposal};
-use lz_base::{Fault, Rule, Stop};
+use lz_base::{Fault, OutOfMemory, Rule, Stop, TEXT_LIMIT};
 use std::alloc::Global;
-use std::process::Abort;
-use std::test::Fail;
 
 const REGISTER: &[u8] =
     b"network 2\nmodel t\nclock clk\ninput a 1\nff 0 6 1\nxor 2 4\noutput q 4\nend\n";
@@ -45,32 +43,36 @@ const REFUSED: &[(&[u8], Rule, u64)] = &[
     ),
 ];
 
-fn expect_again(rt: &impl Abort, alloc: Global, text: &[u8]) -> Result<(), Fail> {
-    assert!(rt; text.len() <= 1 << 28);
-    match read(alloc, text) {
-        Ok(network) => assert_eq!(rt; print(alloc, &network)?.as_slice(), text),
-        Err(_) => assert!(rt; false, "{text:?}"),
+// Whether a text is read and printed again as it was.
+fn prints_again(alloc: Global, text: &[u8]) -> Result<bool, Stop> {
+    if TEXT_LIMIT < text.len() as u64 {
+        return Ok(false);
     }
-    Ok(())
+    let network = read(alloc, text)?;
+    Ok(is_printed(print(alloc, &network), text))
+}
+
+fn is_printed(printed: Result<Vec<u8>, OutOfMemory>, text: &[u8]) -> bool {
+    match printed {
+        Ok(again) => again.as_slice() == text,
+        Err(_) => false,
+    }
 }
 
 #[test]
-fn prints_what_it_reads(rt: HostRuntime) -> Result<(), Fail> {
-    let alloc = rt.alloc();
-    expect_again(&rt, alloc, REGISTER)?;
-    expect_again(&rt, alloc, ADDER)?;
+fn prints_what_it_reads(rt: HostRuntime) {
+    assert!(rt; prints_again(rt.alloc(), REGISTER) == Ok(true));
+    assert!(rt; prints_again(rt.alloc(), ADDER) == Ok(true));
     for (text, rule, at) in REFUSED {
-        assert!(rt; text.len() <= 1 << 28);
         let wanted = Fault {
             rule: *rule,
             at: *at,
         };
-        match read(alloc, text) {
-            Err(Stop::Fault(fault)) => assert_eq!(rt; fault, wanted),
-            _ => assert!(rt; false, "{text:?}"),
-        }
+        assert!(rt;
+            prints_again(rt.alloc(), text) == Err(Stop::Fault(wanted)),
+            "{text:?}"
+        );
     }
-    Ok(())
 }
 
 const LUTS: &[u8] =
@@ -83,19 +85,22 @@ const UNREADABLE: &[(&[u8], u64)] = &[
     (b"proposal 1\nlut 3 2 1 2 6\nend", 28),
 ];
 
+fn prints_proposal_again(alloc: Global, text: &[u8]) -> Result<bool, ProposalEnd> {
+    if TEXT_LIMIT < text.len() as u64 {
+        return Ok(false);
+    }
+    let proposal = read_proposal(alloc, text)?;
+    Ok(is_printed(print_proposal(alloc, &proposal), text))
+}
+
 #[test]
-fn reads_proposals(rt: HostRuntime) -> Result<(), Fail> {
-    let alloc = rt.alloc();
-    match read_proposal(alloc, LUTS) {
-        Ok(proposal) => assert_eq!(rt; print_proposal(alloc, &proposal)?.as_slice(), LUTS),
-        Err(_) => assert!(rt; false),
-    }
+fn reads_proposals(rt: HostRuntime) {
+    assert!(rt; prints_proposal_again(rt.alloc(), LUTS) == Ok(true));
     for (text, at) in UNREADABLE {
-        assert!(rt; text.len() <= 1 << 28);
-        match read_proposal(alloc, text) {
-            Err(ProposalEnd::Unreadable { at: place }) => assert_eq!(rt; place, *at),
-            _ => assert!(rt; false, "{text:?}"),
-        }
+        let wanted = ProposalEnd::Unreadable { at: *at };
+        assert!(rt;
+            prints_proposal_again(rt.alloc(), text) == Err(wanted),
+            "{text:?}"
+        );
     }
-    Ok(())
 }

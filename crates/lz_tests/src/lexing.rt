@@ -1,10 +1,37 @@
 use lz_base::{Fault, Rule, Stop};
 use std::alloc::Global;
-use std::test::*;
 use v_lexer::lex;
 use v_syntax::{Lexeme, Token};
 
-// The first letter of a token's kind, and its bytes where the kind leaves them open.
+const TEXT: &[u8] =
+    b"module t$1(\r\n\tinput\x0cinput_);\nnegedge 8_'sHf_X 1'b \n 1?a 'D?__1 'o78 $signed(<<<<^~";
+
+// Of each token the place, the first letter of its kind, and its bytes where the kind leaves them open.
+const WANTED: &[(u64, u8, &[u8])] = &[
+    (0, b'k', b""),
+    (7, b'i', b"t$1"),
+    (10, b'm', b""),
+    (14, b'k', b""),
+    (20, b'i', b"input_"),
+    (26, b'm', b""),
+    (27, b'm', b""),
+    (29, b'r', b"negedge"),
+    (37, b'd', b"8_"),
+    (39, b'b', b"'sHf_X"),
+    (46, b'd', b"1"),
+    (47, b'b', b"'b \n 1?"),
+    (54, b'i', b"a"),
+    (56, b'b', b"'D?__"),
+    (61, b'd', b"1"),
+    (63, b'b', b"'o7"),
+    (66, b'd', b"8"),
+    (68, b'c', b""),
+    (75, b'm', b""),
+    (76, b'm', b""),
+    (79, b'm', b""),
+    (80, b'm', b""),
+];
+
 fn shown(lexeme: &Lexeme) -> (u8, &[u8]) {
     match lexeme {
         Lexeme::Identifier(name) => (b'i', name.bytes()),
@@ -17,56 +44,33 @@ fn shown(lexeme: &Lexeme) -> (u8, &[u8]) {
     }
 }
 
-fn is_wanted(token: &Token, want: &(u64, u8, &str)) -> bool {
+fn is_wanted(token: &Token, want: &(u64, u8, &[u8])) -> bool {
     let (kind, bytes) = shown(&token.lexeme);
-    token.at == want.0 && kind == want.1 && bytes == want.2.as_bytes()
+    token.at == want.0 && kind == want.1 && bytes == want.2
+}
+
+fn are_wanted(tokens: &[Token]) -> bool {
+    let mut are = tokens.len() == WANTED.len();
+    for (token, want) in tokens.iter().zip(WANTED) {
+        are &= is_wanted(token, want);
+    }
+    are
+}
+
+fn lexes(alloc: Global) -> Result<bool, Stop> {
+    let tokens = lex(alloc, TEXT)?;
+    Ok(are_wanted(tokens.tokens()) && tokens.end() == 82)
 }
 
 #[test]
-fn tokens_and_a_fault(rt: HostRuntime) -> Result<(), Fail> {
-    let alloc = rt.alloc();
-    let text =
-        "module t$1(\r\n\tinput\x0cinput_);\nnegedge 8_'sHf_X 1'b \n 1?a 'D?__1 'o78 $signed(<<<<^~";
-    let wants = [
-        (0, b'k', ""),
-        (7, b'i', "t$1"),
-        (10, b'm', ""),
-        (14, b'k', ""),
-        (20, b'i', "input_"),
-        (26, b'm', ""),
-        (27, b'm', ""),
-        (29, b'r', "negedge"),
-        (37, b'd', "8_"),
-        (39, b'b', "'sHf_X"),
-        (46, b'd', "1"),
-        (47, b'b', "'b \n 1?"),
-        (54, b'i', "a"),
-        (56, b'b', "'D?__"),
-        (61, b'd', "1"),
-        (63, b'b', "'o7"),
-        (66, b'd', "8"),
-        (68, b'c', ""),
-        (75, b'm', ""),
-        (76, b'm', ""),
-        (79, b'm', ""),
-        (80, b'm', ""),
-    ];
-    let tokens = lex(alloc, text.as_bytes()).map_err(|_| "a text of tokens")?;
-    assert!(rt; tokens.tokens().len() == wants.len());
-    assert!(rt;
-        tokens
-            .tokens()
-            .iter()
-            .zip(&wants)
-            .all(|(token, want)| is_wanted(token, want))
-    );
-    assert!(rt; tokens.end() == 82);
-    let stop = lex(alloc, b"a$b $c").err();
-    assert!(rt;
-        stop == Some(Stop::Fault(Fault {
-            rule: Rule::E2,
-            at: 4
-        }))
-    );
-    Ok(())
+fn tokens_and_a_fault(rt: HostRuntime) {
+    assert!(rt; matches!(lexes(rt.alloc()), Ok(true)));
+    let wanted = Fault {
+        rule: Rule::E2,
+        at: 4,
+    };
+    match lex(rt.alloc(), b"a$b $c") {
+        Ok(_) => assert!(rt; false, "a byte that begins no token"),
+        Err(stop) => assert!(rt; stop == Stop::Fault(wanted)),
+    }
 }

@@ -1,38 +1,38 @@
 use lz_base::{
-    Failed, Files, HostFiles, HostSink, MemFiles, MemSink, Name, Partial, ReadEnd, Sink, Word,
-    read_file, write_all,
+    Failed, Files, HostFiles, HostSink, MemFiles, MemSink, Name, OutOfMemory, Partial, ReadEnd,
+    Sink, Word, cut, read_file, write_all,
 };
 use std::alloc::{AllocError, Global};
 use std::io::{ErrorKind, Write};
-use std::test::Fail;
 use std::{fs, io};
+
+// The width and the value of a word, another width, whether the word is signed, and its value at that width.
+const RESIZED: &[(u32, u128, u32, bool, u128)] = &[
+    (8, 0xab, 4, false, 0xb),
+    (8, 0xab, 4, true, 0xb),
+    (4, 0xb, 4, true, 0xb),
+    (4, 0xb, 8, false, 0x0b),
+    (4, 0xb, 8, true, 0xfb),
+    (4, 0x5, 8, true, 0x05),
+    (1, 1, 128, true, u128::MAX),
+    (1, 1, 128, false, 1),
+    (128, u128::MAX, 1, true, 1),
+    (128, u128::MAX, 128, true, u128::MAX),
+];
+
+fn is_resized(case: &(u32, u128, u32, bool, u128)) -> bool {
+    let (width, value, to, signed, want) = *case;
+    if width < 1 || 128 < width || to < 1 || 128 < to {
+        return false;
+    }
+    let word = Word::new(width, cut(value, width));
+    word.value == value && word.resize(to, signed) == Word::new(to, cut(want, to))
+}
 
 #[test]
 fn words_are_cut_and_extended(rt: HostRuntime) {
-    let cases = [
-        (Word::new(8, 0xab), 4, false, Word::new(4, 0xb)),
-        (Word::new(8, 0xab), 4, true, Word::new(4, 0xb)),
-        (Word::new(4, 0xb), 4, true, Word::new(4, 0xb)),
-        (Word::new(4, 0xb), 8, false, Word::new(8, 0x0b)),
-        (Word::new(4, 0xb), 8, true, Word::new(8, 0xfb)),
-        (Word::new(4, 0x5), 8, true, Word::new(8, 0x05)),
-        (Word::new(1, 1), 128, true, Word::new(128, u128::MAX)),
-        (Word::new(1, 1), 128, false, Word::new(128, 1)),
-        (Word::new(128, u128::MAX), 1, true, Word::new(1, 1)),
-        (
-            Word::new(128, u128::MAX),
-            128,
-            true,
-            Word::new(128, u128::MAX),
-        ),
-    ];
-    for (word, width, signed, want) in cases {
-        assert!(rt; 1 <= width && width <= 128);
-        assert_eq!(rt;
-            word.resize(width, signed),
-            want,
-            "{word:?} to {width}, {signed}"
-        );
+    for case in RESIZED {
+        assert!(rt; is_resized(case), "{case:?}");
     }
 }
 
@@ -43,14 +43,20 @@ fn bits_count_from_the_least(rt: HostRuntime) {
     assert!(rt; !word.bit(126) && !word.bit(3) && !word.bit(0));
 }
 
+fn are_ordered(name: &Name, again: &Name, other: &Name) -> bool {
+    name == again && name != other && other < name && name <= again
+}
+
+fn compares(alloc: Global) -> Result<bool, OutOfMemory> {
+    let name = Name::new(alloc, b"_a1$")?;
+    let again = name.clone()?;
+    let other = Name::new(alloc, b"Z")?;
+    Ok(name.bytes() == b"_a1$".as_slice() && are_ordered(&name, &again, &other))
+}
+
 #[test]
-fn names_are_their_bytes(rt: HostRuntime) -> Result<(), Fail> {
-    let name = Name::new(rt.alloc(), b"_a1$".as_slice())?;
-    assert_eq!(rt; name.bytes(), b"_a1$".as_slice());
-    let other = Name::new(rt.alloc(), b"Z".as_slice())?;
-    assert!(rt; name == name.clone()? && name != other);
-    assert!(rt; other < name && name <= name.clone()?);
-    Ok(())
+fn names_are_their_bytes(rt: HostRuntime) {
+    assert!(rt; matches!(compares(rt.alloc()), Ok(true)));
 }
 
 // A file that holds `abcde` under the name `a`, and an empty one.
@@ -63,79 +69,133 @@ fn letters(alloc: Global, fail: &[u64]) -> Result<MemFiles, AllocError> {
     Ok(MemFiles::new(files, fail.to_vec(alloc)?))
 }
 
-#[test]
-fn memory_files_read_and_fail(rt: HostRuntime) -> Result<(), Fail> {
-    let mut files = letters(rt.alloc(), &[3])?;
-    let mut piece = [0u8; 3];
-    assert_eq!(rt; files.read(&mut piece), Err(Failed), "nothing is open");
-    files.open("a")?;
-    assert_eq!(rt; files.read(&mut piece), Ok(3));
-    assert_eq!(rt; piece, *b"abc");
-    assert_eq!(rt; files.read(&mut piece), Err(Failed), "call 3 is listed");
-    assert_eq!(rt; files.read(&mut piece), Ok(2));
-    assert_eq!(rt; piece, *b"dec");
-    assert_eq!(rt; files.read(&mut piece), Ok(0));
-    assert_eq!(rt; files.open("b"), Err(Failed), "no such file");
-    assert_eq!(rt; files.read(&mut piece), Err(Failed), "nothing is open");
-    Ok(())
+// A call on files, and what it answers.
+#[derive(Clone, Copy)]
+enum Call {
+    // `a` is opened
+    Opens,
+    // there is no file `b`
+    Misses,
+    // how many bytes are read, and the buffer behind it
+    Reads(usize, [u8; 3]),
+    // a read that fails
+    Fails,
 }
 
-#[test]
-fn files_are_read_up_to_the_limit(rt: HostRuntime) -> Result<(), Fail> {
-    let mut files = letters(rt.alloc(), &[])?;
-    for (limit, fits) in [(0, false), (4, false), (5, true), (6, true)] {
-        assert!(rt; limit <= 6);
-        match read_file(rt.alloc(), &mut files, "a", limit) {
-            Ok(bytes) => assert_eq!(rt; (bytes.as_slice(), fits), (b"abcde".as_slice(), true)),
-            Err(end) => assert_eq!(rt; (end, fits), (ReadEnd::TooLong, false)),
+// Of the calls the fourth is listed as one that fails: number 3.
+const CALLS: &[Call] = &[
+    Call::Fails,
+    Call::Opens,
+    Call::Reads(3, *b"abc"),
+    Call::Fails,
+    Call::Reads(2, *b"dec"),
+    Call::Reads(0, *b"dec"),
+    Call::Misses,
+    Call::Fails,
+];
+
+fn is_answered(files: &mut MemFiles, piece: &mut [u8; 3], call: Call) -> bool {
+    match call {
+        Call::Opens => files.open("a").is_ok(),
+        Call::Misses => files.open("b").is_err(),
+        Call::Reads(count, bytes) => files.read(piece) == Ok(count) && *piece == bytes,
+        Call::Fails => files.read(piece).is_err(),
+    }
+}
+
+// How many of the calls are answered so, up to the first that is not.
+fn answered(alloc: Global) -> Result<usize, AllocError> {
+    let mut files = letters(alloc, &[3])?;
+    let mut piece = [0u8; 3];
+    for (at, call) in CALLS.iter().enumerate() {
+        if !is_answered(&mut files, &mut piece, *call) {
+            return Ok(at);
         }
     }
-    Ok(())
+    Ok(CALLS.len())
 }
 
 #[test]
-fn a_failed_read_is_not_the_end(rt: HostRuntime) -> Result<(), Fail> {
+fn memory_files_read_and_fail(rt: HostRuntime) {
+    assert!(rt; answered(rt.alloc()) == Ok(CALLS.len()));
+}
+
+// Whether a file that is read whole, up to a limit, holds `abcde`.
+fn reads<F: Files>(alloc: Global, files: &mut F, name: &str, limit: u8) -> Result<bool, ReadEnd> {
+    let bytes = read_file(alloc, files, name, u64::from(limit))?;
+    Ok(bytes.as_slice() == b"abcde".as_slice())
+}
+
+fn keeps_limits(alloc: Global) -> Result<bool, AllocError> {
+    let mut files = letters(alloc, &[])?;
+    let mut keeps = true;
+    for limit in [0, 4] {
+        keeps &= reads(alloc, &mut files, "a", limit) == Err(ReadEnd::TooLong);
+    }
+    for limit in [5, 6] {
+        keeps &= reads(alloc, &mut files, "a", limit) == Ok(true);
+    }
+    Ok(keeps)
+}
+
+#[test]
+fn files_are_read_up_to_the_limit(rt: HostRuntime) {
+    assert!(rt; keeps_limits(rt.alloc()) == Ok(true));
+}
+
+// Whether a read in which a call fails is no answer, and the next one is.
+fn fails_once(alloc: Global, call: u64) -> Result<bool, AllocError> {
+    let mut files = letters(alloc, &[call])?;
+    let fails = reads(alloc, &mut files, "a", 9) == Err(ReadEnd::Fault);
+    Ok(fails && reads(alloc, &mut files, "a", 9) == Ok(true))
+}
+
+#[test]
+fn a_failed_read_is_not_the_end(rt: HostRuntime) {
     for call in 0..3 {
-        let mut files = letters(rt.alloc(), &[call])?;
-        let first = read_file(rt.alloc(), &mut files, "a", 9);
-        assert!(rt; matches!(first, Err(ReadEnd::Fault)), "call {call} fails");
-        assert_eq!(rt;
-            read_file(rt.alloc(), &mut files, "a", 9)?.as_slice(),
-            b"abcde".as_slice()
+        assert!(rt;
+            fails_once(rt.alloc(), call) == Ok(true),
+            "call {call} fails"
         );
     }
-    Ok(())
+}
+
+// Whether a sink of five bytes, which takes two at once, takes `abcde`, and no more.
+fn is_filled(sink: &mut MemSink) -> bool {
+    sink.write(b"abc") == Ok(2)
+        && write_all(sink, b"c").is_ok()
+        && write_all(sink, b"defg") == Err(Partial { sent: 2 })
+        && sink.bytes() == b"abcde".as_slice()
 }
 
 #[test]
-fn a_sink_takes_pieces_until_it_is_full(rt: HostRuntime) -> Result<(), Fail> {
-    let mut sink = MemSink::new(rt.alloc(), 5, 2)?;
-    assert_eq!(rt; sink.write(b"abc".as_slice()), Ok(2));
-    write_all(&mut sink, b"c".as_slice())?;
-    assert_eq!(rt;
-        write_all(&mut sink, b"defg".as_slice()),
-        Err(Partial { sent: 2 })
-    );
-    assert_eq!(rt; sink.bytes(), b"abcde".as_slice());
-    assert_eq!(rt; sink.write(b"h".as_slice()), Err(Failed));
-    assert_eq!(rt; sink.write(b"".as_slice()), Ok(0));
-    Ok(())
+fn a_sink_takes_pieces_until_it_is_full(rt: HostRuntime) {
+    match MemSink::new(rt.alloc(), 5, 2) {
+        Ok(mut sink) => {
+            assert!(rt; is_filled(&mut sink));
+            assert!(rt; sink.write(b"h") == Err(Failed) && sink.write(b"") == Ok(0));
+        }
+        Err(_) => assert!(rt; false),
+    }
 }
 
 const PATH: &str = "lz_base_test";
 
+fn sends<W: Write + Drop>(writer: W) -> bool {
+    let mut sink = HostSink::new(writer);
+    write_all(&mut sink, b"abc").is_ok() && write_all(&mut sink, b"de").is_ok()
+}
+
 #[test]
-fn the_system_keeps_what_is_written(rt: HostRuntime) -> Result<(), Fail> {
-    let mut sink = HostSink::new(fs::create(&rt, PATH)?);
-    write_all(&mut sink, b"abc".as_slice())?;
-    write_all(&mut sink, b"de".as_slice())?;
+fn the_system_keeps_what_is_written(rt: HostRuntime) {
+    match fs::create(&rt, PATH) {
+        Ok(file) => assert!(rt; sends(file)),
+        Err(_) => assert!(rt; false),
+    }
     let mut files = HostFiles::new(&rt);
-    let bytes = read_file(rt.alloc(), &mut files, PATH, 5)?;
-    assert_eq!(rt; bytes.as_slice(), b"abcde".as_slice());
-    fs::remove_file(&rt, PATH)?;
-    let missing = read_file(rt.alloc(), &mut files, PATH, 5);
-    assert!(rt; matches!(missing, Err(ReadEnd::Fault)));
-    Ok(())
+    assert!(rt; reads(rt.alloc(), &mut files, PATH, 5) == Ok(true));
+    assert!(rt; fs::remove_file(&rt, PATH).is_ok());
+    assert!(rt; reads(rt.alloc(), &mut files, PATH, 5) == Err(ReadEnd::Fault));
 }
 
 /// A writer whose first calls are interrupted, and which then takes all but `short` bytes of a piece.
@@ -159,6 +219,11 @@ impl Write for Interrupted {
     }
 }
 
+// What a sink answers to three bytes, over a writer that is interrupted so often and takes so many bytes less.
+fn written(calls: u32, short: usize) -> Result<usize, Failed> {
+    HostSink::new(Interrupted { calls, short }).write(b"abc")
+}
+
 #[test]
 fn an_interrupted_write_is_tried_again(rt: HostRuntime) {
     let cases = [
@@ -169,11 +234,6 @@ fn an_interrupted_write_is_tried_again(rt: HostRuntime) {
         (1001, 0, Err(Failed)),
     ];
     for (calls, short, want) in cases {
-        let mut sink = HostSink::new(Interrupted { calls, short });
-        assert_eq!(rt;
-            sink.write(b"abc".as_slice()),
-            want,
-            "{calls} interruptions"
-        );
+        assert!(rt; written(calls, short) == want, "{calls} interruptions");
     }
 }

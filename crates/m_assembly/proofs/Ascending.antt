@@ -5,16 +5,17 @@ use Rattle.g_net.specs.declared.network.Gate.{Gate}
 use Rattle.g_net.specs.declared.network.Gate.TheVariants as gate
 use Rattle.g_net.specs.declared.proposal.Line.{Line}
 use Rattle.g_net.specs.Network.{NetworkValue}
+use Rattle.n_cells.specs.Leaves.{most_leaves}
 use Rattle.n_cells.specs.declared.netlist.Stored.TheVariants as stored
 use Rattle.m_valid.specs.declared.nodes.Node.{Node}
 use Rattle.m_valid.specs.declared.verdict.Check.{Check}
-use Rattle.m_valid.specs.declared.verdict.Check.TheVariants.{V1}
+use Rattle.m_valid.specs.declared.verdict.Check.TheVariants.{V1, V2}
 use Rattle.m_valid.specs.declared.verdict.Verdict.{Verdict}
 use Rattle.m_valid.specs.declared.verdict.Verdict.TheVariants.{Valid}
 use Rattle.m_valid.specs.Assembly.{Assembled, is_inverted, line_of, with_inverter, with_root, with_gate, with_gates}
 use Rattle.m_valid.specs.Nodes.{is_gate, node_at, nodes_of}
-use Rattle.m_valid.specs.Validity.{first_broken, judged, roots_hold, verdict}
-use Rattle.m_assembly.specs.Cursor.{Ascend, first_line, from_root}
+use Rattle.m_valid.specs.Validity.{first_broken, has_leaves, increase, judged, leaves_hold, roots_hold, verdict}
+use Rattle.m_assembly.specs.Cursor.{AreCuts, first_line, from_root}
 
 le_is : (a b : ℕ) → nat_le a b ≡ true → a ≤ b
 le_is a b h = grind (arith, nat_tests)
@@ -32,28 +33,28 @@ eq_not : (a b : ℕ) → b ≤ a → (a == b) ≡ false → b < a
 eq_not a b le h = grind (arith, nat_tests)
 
 -- no line has a root below all
-none_below : (least : ℕ) (lines : List Line) (node : ℕ) → Ascend least lines → node < least → line_of lines node ≡ None
+none_below : (least : ℕ) (lines : List Line) (node : ℕ) → AreCuts least lines → node < least → line_of lines node ≡ None
 none_below least [] node h below = refl
 none_below least (l ∷ ls) node h below =
     let above : node < l.root = omega (arith, below, h.0) in
-    ap (λ (b : Bool). if b then Some l else line_of ls node) (eq_above l.root node above) ∙ none_below (l.root + 1) ls node h.1 (omega (arith, above))
+    ap (λ (b : Bool). if b then Some l else line_of ls node) (eq_above l.root node above) ∙ none_below (l.root + 1) ls node h.2 (omega (arith, above))
 
 -- the line of the node from which on they ascend is the first one
-pub first_found : (lines : List Line) (node : ℕ) → Ascend node lines → first_line lines node ≡ line_of lines node
+pub first_found : (lines : List Line) (node : ℕ) → AreCuts node lines → first_line lines node ≡ line_of lines node
 first_found [] node h = refl
 first_found (l ∷ ls) node h = by (l.root == node) refl
   where
     by : (b : Bool) → (l.root == node) ≡ b → (if b then Some l else None) ≡ (if b then Some l else line_of ls node)
     by true e = refl
-    by false e = sym (none_below (l.root + 1) ls node h.1 (omega (arith, eq_not l.root node h.0 e)))
+    by false e = sym (none_below (l.root + 1) ls node h.2 (omega (arith, eq_not l.root node h.0 e)))
 
 -- the lines from a number on ascend from there
-pub ascend_on : (least : ℕ) (lines : List Line) (number : ℕ) → Ascend least lines → Ascend number (from_root number lines)
+pub ascend_on : (least : ℕ) (lines : List Line) (number : ℕ) → AreCuts least lines → AreCuts number (from_root number lines)
 ascend_on least [] number h = tt
-ascend_on least (l ∷ ls) number h = by (nat_le number l.root) refl (ascend_on (l.root + 1) ls number h.1)
+ascend_on least (l ∷ ls) number h = by (nat_le number l.root) refl (ascend_on (l.root + 1) ls number h.2)
   where
-    by : (b : Bool) → nat_le number l.root ≡ b → Ascend number (from_root number ls) → Ascend number (if b then l ∷ ls else from_root number ls)
-    by true e rest = (le_is number l.root e, h.1)
+    by : (b : Bool) → nat_le number l.root ≡ b → AreCuts number (from_root number ls) → AreCuts number (if b then l ∷ ls else from_root number ls)
+    by true e rest = (le_is number l.root e, h.1, h.2)
     by false e rest = rest
 
 -- they have the lines of all nodes from there on
@@ -69,10 +70,10 @@ same_line (l ∷ ls) number node le = by (nat_le number l.root) refl (same_line 
 -- Lines that are left at a node: they ascend, and have the lines of all nodes from there on.
 pub record AreLeft (lines rest : List Line) (node : ℕ) : Type 0 where
   pub least : ℕ
-  pub ascend : Ascend least rest
+  pub ascend : AreCuts least rest
   pub same : (later : ℕ) → node ≤ later → line_of rest later ≡ line_of lines later
 
-pub all_left : (lines : List Line) (node : ℕ) → Ascend 0 lines → AreLeft lines lines node
+pub all_left : (lines : List Line) (node : ℕ) → AreCuts 0 lines → AreLeft lines lines node
 all_left lines node h = record { least = 0; ascend = h; same = λ later le. refl }
 
 pub left_from : (lines rest : List Line) (node number : ℕ) → node ≤ number → AreLeft lines rest node → AreLeft lines (from_root node rest) number
@@ -112,11 +113,11 @@ gate_nodes lines m (gate.Carry a b c) =
     omega (arith, length-append three.nets (three.next ∷ (three.next + 1) ∷ []), ap length same)
 
 -- the line that is met at a node
-pub line_met : (lines : List Line) (node at : ℕ) (met : Option Line) → met ≡ first_line lines node → node ≡ at → Ascend at lines → met ≡ line_of lines at
+pub line_met : (lines : List Line) (node at : ℕ) (met : Option Line) → met ≡ first_line lines node → node ≡ at → AreCuts at lines → met ≡ line_of lines at
 line_met lines node at met e same h = e ∙ ap (first_line lines) same ∙ first_found lines at h
 
-pub left_ascends : (lines rest next : List Line) (node at : ℕ) → next ≡ from_root node rest → node ≡ at → AreLeft lines rest at → Ascend at next
-left_ascends lines rest next node at e same h = subst (Ascend at) (sym (e ∙ ap (λ k. from_root k rest) same)) (ascend_on h.least rest at h.ascend)
+pub left_ascends : (lines rest next : List Line) (node at : ℕ) → next ≡ from_root node rest → node ≡ at → AreLeft lines rest at → AreCuts at next
+left_ascends lines rest next node at e same h = subst (AreCuts at) (sym (e ∙ ap (λ k. from_root k rest) same)) (ascend_on h.least rest at h.ascend)
 
 -- one gate more
 pub left_next : (lines rest next : List Line) (m after : Assembled) (gs : List Gate) (i : ℕ) (d : Gate) (node : ℕ) → next ≡ from_root node rest → node ≡ length m.nets → after ≡ with_gate next m (get_or gs i d) → AreLeft lines rest (length m.nets) → AreLeft lines next (length after.nets)
@@ -138,6 +139,10 @@ sound : (check : Check) (place : Option ℕ) (later : Verdict) → judged check 
 sound check None later e = refl
 sound check (Some place) later e = cc
 
+behind : (check : Check) (place : Option ℕ) (later : Verdict) → judged check place later ≡ Valid → later ≡ Valid
+behind check None later e = e
+behind check (Some place) later e = cc
+
 first_holds : (place : ℕ) (a : Bool) (more : List Bool) → first_broken place (a ∷ more) ≡ None → (a ≡ true) × (first_broken (place + 1) more ≡ None)
 first_holds place true more e = (refl, e)
 first_holds place false more e = absurd (cc)
@@ -146,12 +151,16 @@ both_first : (a b : Bool) → (a && b) ≡ true → a ≡ true
 both_first true b e = refl
 both_first false b e = cc
 
-roots_ascend : (nodes : List Node) (least place : ℕ) (lines : List Line) → first_broken place (roots_hold nodes least lines) ≡ None → Ascend least lines
-roots_ascend nodes least place [] e = tt
-roots_ascend nodes least place (l ∷ ls) e =
+-- each line has its root behind those before it, and few leaves
+lines_cut : (nodes : List Node) (least place other most : ℕ) (roots : List ℕ) (lines : List Line) → most ≤ most_leaves → first_broken place (roots_hold nodes least lines) ≡ None → first_broken other (leaves_hold nodes most roots lines) ≡ None
+    → AreCuts least lines
+lines_cut nodes least place other most roots [] few e f = tt
+lines_cut nodes least place other most roots (l ∷ ls) few e f =
     let here = first_holds place (nat_le least l.root && is_gate (node_at nodes l.root)) (roots_hold nodes (l.root + 1) ls) e in
-    (le_is least l.root (both_first (nat_le least l.root) (is_gate (node_at nodes l.root)) here.0), roots_ascend nodes (l.root + 1) (place + 1) ls here.1)
+    let there = first_holds other (has_leaves nodes most roots l) (leaves_hold nodes most (roots ++ l.root ∷ []) ls) f in
+    let count : length l.leaves ≤ most = le_is (length l.leaves) most (both_first (nat_le (length l.leaves) most) _ (both_first (nat_le (length l.leaves) most && increase 0 l.leaves l.root) _ there.0)) in
+    (le_is least l.root (both_first (nat_le least l.root) (is_gate (node_at nodes l.root)) here.0), omega (arith, count, few), lines_cut nodes (l.root + 1) (place + 1) (other + 1) most (roots ++ l.root ∷ []) ls few here.1 there.1)
 
--- the roots of a valid proposal ascend
-pub valid_ascends : (n : NetworkValue) (lines : List Line) (most : ℕ) → verdict n lines most ≡ Valid → Ascend 0 lines
-valid_ascends n lines most e = roots_ascend (nodes_of n) 0 1 lines (sound V1 _ _ e)
+-- the lines of a valid proposal
+pub valid_cuts : (n : NetworkValue) (lines : List Line) (most : ℕ) → most ≤ most_leaves → verdict n lines most ≡ Valid → AreCuts 0 lines
+valid_cuts n lines most few e = lines_cut (nodes_of n) 0 1 1 most [] lines few (sound V1 _ _ e) (sound V2 _ _ (behind V1 _ _ e))

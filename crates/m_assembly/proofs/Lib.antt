@@ -1,4 +1,3 @@
 pub mod Ascending
-pub mod Filling
 pub mod Nexts
 pub mod Outputs

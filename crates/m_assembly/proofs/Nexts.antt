@@ -1,5 +1,5 @@
 -- Lists from an index on.
-use Rattle.std.proofs.Common.{◌≡◌, ◌<◌, ◌-◌, ℕ, zero, suc, ◌+◌, List, [], ◌∷◌, ◌++◌, take, drop, get_or, map, slice_get, Option, None, Some, append_assoc, refl, ap, sym, ◌∙◌, add-one, arith}
+use Rattle.std.proofs.Common.{◌≡◌, ◌<◌, ◌-◌, ℕ, zero, suc, ◌+◌, List, [], ◌∷◌, ◌++◌, drop, map, slice_get, Option, None, Some, append_assoc, refl, ap, sym, ◌∙◌, add-one, arith}
 use Rattle.std.specs.Option.{option_map}
 use Rattle.m_valid.specs.Assembly.{numbers}
 
@@ -8,17 +8,6 @@ pub drop_next : {X : Type 0} (xs : List X) (i : ℕ) (x : X) → slice_get xs i 
 drop_next [] i x is = cc
 drop_next (y ∷ ys) zero x is = let e : y ≡ x = cc in rw e refl
 drop_next (y ∷ ys) (suc i) x is = rw (add-one (suc i)) (drop_next ys i x is ∙ rw (add-one i) refl)
-
--- the items up to an item that is there
-pub take_next : {X : Type 0} (xs : List X) (i : ℕ) (x : X) → slice_get xs i ≡ Some x → take (i + 1) xs ≡ take i xs ++ x ∷ []
-take_next [] i x is = cc
-take_next (y ∷ ys) zero x is = let e : y ≡ x = cc in rw e refl
-take_next (y ∷ ys) (suc i) x is = rw (add-one (suc i)) (ap (λ l. y ∷ l) (sym (ap (λ k. take k ys) (add-one i)) ∙ take_next ys i x is))
-
-pub get_or_is : {X : Type 0} (xs : List X) (i : ℕ) (x d : X) → slice_get xs i ≡ Some x → get_or xs i d ≡ x
-get_or_is [] i x d e = cc
-get_or_is (y ∷ ys) zero x d e = cc
-get_or_is (y ∷ ys) (suc i) x d e = get_or_is ys i x d e
 
 sub_one : (count : ℕ) → suc count - 1 ≡ count
 sub_one count = omega arith

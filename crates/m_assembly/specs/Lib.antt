@@ -1,4 +1,2 @@
-pub mod Cells
 pub mod Cursor
-pub mod Parts
 pub mod Views

@@ -5,30 +5,58 @@ ghost use Rattle.g_net.specs.AsMachine.{network_machine};
 ghost use Rattle.m_valid.specs.declared.verdict.Verdict.TheVariants.{Valid};
 ghost use Rattle.m_valid.specs.Assembly.{assembled};
 ghost use Rattle.m_valid.specs.Validity.{verdict};
-ghost use Rattle.m_assembly.specs.Cursor.{Ascend};
-ghost use Rattle.m_assembly.specs.Parts.{netlist_over};
+ghost use Rattle.m_assembly.specs.Cursor.{AreCuts};
 
 use crate::draft::Draft;
-use crate::ends::{flops_of, output_nets, output_ports};
+use crate::ends::{clock_of, copy, flops_of, input_ports, output_nets, output_ports};
 use crate::gates::push_gates;
-use crate::making::{Parts, make};
 use g_net::{Line, Network, Proposal};
-use lz_base::OutOfMemory;
+use lz_base::{Items, Name, OutOfMemory, Port};
 use m_valid::assembly_agrees;
 use n_cells::Netlist;
+use n_parts::{Parts, make};
 use std::alloc::Global;
+
+// What a netlist has as its network has it.
+#[derive(Drop)]
+struct Front {
+    name: Name,
+    clock: Option<Name>,
+    inputs: Items<Port>,
+}
+
+fn front_of(alloc: Global, network: &Network) -> Result<Front, OutOfMemory>
+    ensures { IfOk result (λ front. front ≡ record { name = network.now.name; clock = network.now.clock; inputs = network.now.inputs }) }
+{
+    let inputs = input_ports(alloc, network.inputs())?;
+    let clock = clock_of(alloc, network.clock())?;
+    let name = copy(alloc, network.name())?;
+    Ok(Front {
+        name,
+        clock,
+        inputs,
+    })
+}
 
 // The parts of the netlist that these lines make of a network.
 fn parts_of(alloc: Global, network: &Network, lines: &[Line]) -> Result<Parts, OutOfMemory>
-    requires { Ascend 0 lines.now }
-    ensures { IfOk result (λ parts. netlist_over network.now parts ≡ assembled network.now lines.now) }
+    requires { AreCuts 0 lines.now }
+    ensures { IfOk result (λ parts. parts ≡ assembled network.now lines.now) }
 {
     let mut draft = Draft::new(alloc, network)?;
     push_gates(&mut draft, lines, network.gates())?;
     let flops = flops_of(alloc, &mut draft, network.flips())?;
     let nets = output_nets(alloc, &mut draft, network)?;
     let outputs = output_ports(alloc, network)?;
+    let Front {
+        name,
+        clock,
+        inputs,
+    } = front_of(alloc, network)?;
     Ok(Parts {
+        name,
+        clock,
+        inputs,
         flops,
         cells: draft.into_cells(),
         outputs,
@@ -60,6 +88,6 @@ pub fn assemble(
     assembly_agrees();
     let _gates = network.gates();
     let parts = parts_of(alloc, network, proposal.lines.as_slice())?;
-    let netlist = make(alloc, network, &parts)?;
+    let netlist = make(alloc, parts)?;
     Ok(netlist)
 }

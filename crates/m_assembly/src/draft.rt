@@ -1,12 +1,14 @@
-ghost use Rattle.std.specs.Prelude.{◌≡◌, ◌≤◌, ◌+◌, ◌-◌, ◌%◌, ◌^◌, ◌<◌, ◌++◌, [], ◌∷◌, map, slice_index, length, IfOk, OnOk};
+ghost use Rattle.std.specs.Prelude.{◌≡◌, ◌≤◌, ◌+◌, ◌-◌, ◌%◌, ◌^◌, ◌<◌, ◌++◌, [], ◌∷◌, map, slice_index, length, IfOk, IfSome, OnOk};
 ghost use Rattle.std.specs.Option.{option_copied};
 ghost use Rattle.g_net.specs.Network.{source_bits};
+ghost use Rattle.n_cells.specs.Leaves.{most_leaves};
 ghost use Rattle.n_cells.specs.declared.netlist.Stored.TheVariants as stored;
 ghost use Rattle.m_valid.specs.Assembly.{numbers, sources, with_inverter, with_root, with_carry, with_sum, net_of};
 
-use crate::piece::Piece;
-use g_net::{Leaves, Line, Network};
+use g_net::{Line, Network};
 use lz_base::{Items, Num, OutOfMemory};
+use n_cells::{LEAVES, Leaves};
+use n_parts::Piece;
 use std::alloc::Global;
 use std::marker::Model;
 
@@ -14,7 +16,6 @@ use std::marker::Model;
 /// the number of the net that comes next.
 #[derive(Drop)]
 pub(crate) struct Draft {
-    alloc: Global,
     nets: Items<Num>,
     cells: Items<Piece>,
     next: Num,
@@ -76,14 +77,15 @@ fn net_at(nets: &[Num], node: Num) -> Num
 }
 
 // The nets of leaves.
-fn leaf_nets(alloc: Global, nets: &[Num], leaves: &[Num]) -> Result<Leaves, OutOfMemory>
-    ensures { IfOk result (λ made. made ≡ map (slice_index nets.now) leaves.now) }
+fn leaf_nets(nets: &[Num], leaves: &[Num]) -> Leaves
+    requires { length leaves.now ≤ most_leaves }
+    ensures { result ≡ map (slice_index nets.now) leaves.now }
 {
-    let mut made = Leaves::new(alloc);
-    for leaf in leaves {
-        made.push(net_at(nets, *leaf))?;
+    let mut made = [0; LEAVES];
+    for (i, leaf) in leaves.iter().enumerate() {
+        made[i] = net_at(nets, *leaf);
     }
-    Ok(made)
+    Leaves::new(&made[..leaves.len()])
 }
 
 // How many bits a table over so many leaves has.
@@ -114,7 +116,6 @@ impl Draft {
         let next = first_net(network)?;
         let nets = source_nets(alloc, next)?;
         Ok(Draft {
-            alloc,
             nets,
             cells: Items::new(alloc),
             next,
@@ -126,7 +127,6 @@ impl Draft {
         ensures { result ≡ self.cells }
     {
         let Draft {
-            alloc: _,
             nets: _,
             cells,
             next: _,
@@ -158,8 +158,7 @@ impl Draft {
         ensures made { OnOk result (self.new ≡ record { nets = self.old.nets; cells = self.old.cells ++ stored.Lut (net ∷ []) 1 ∷ []; next = self.old.next + 1 }) }
         ensures first { IfOk result (λ made. made ≡ self.old.next) }
     {
-        let leaves = Leaves::from_slice(self.alloc, &[net])?;
-        self.push_cell(Piece::lut(leaves, 1), 1)
+        self.push_cell(Piece::lut(Leaves::new(&[net]), 1), 1)
     }
 
     /// The net of a literal, for which it appends an inverter where the literal is odd and not the constant 1.
@@ -181,6 +180,7 @@ impl Draft {
     /// Appends the look-up table of a root's line, of which the low bits alone count: one for each assignment of the
     /// leaves. A node without a line gives no cell, and its net is never read.
     pub(crate) fn push_root(&mut self, line: Option<&Line>) -> Result<(), OutOfMemory>
+        requires { IfSome line (λ l. length l.now.leaves ≤ most_leaves) }
         ensures { OnOk result (self.new ≡ with_root self.old (option_copied line.entry)) }
     {
         let Some(line) = line else {
@@ -188,7 +188,7 @@ impl Draft {
             return Ok(());
         };
         let leaves = line.leaves.as_slice();
-        let nets = leaf_nets(self.alloc, self.nets.as_slice(), leaves)?;
+        let nets = leaf_nets(self.nets.as_slice(), leaves);
         let table = cut_table(line.table, leaves.len());
         let net = self.push_cell(Piece::lut(nets, table), 1)?;
         self.nets.push(net)?;

@@ -1,5 +1,5 @@
 ghost use Rattle.std.specs.Prelude.{◌≡◌, ◌<◌, length, map, slice_get, Some, IfOk, OnOk};
-ghost use Rattle.std.specs.Option.{option_map};
+ghost use Rattle.std.specs.Option.{option_copied, option_map};
 ghost use Rattle.g_net.specs.AsMachine.{port_of};
 ghost use Rattle.m_valid.specs.Assembly.{after_flips, after_outputs, flops_of, nets_of, output_nets, with_inverters};
 
@@ -8,6 +8,38 @@ use g_net::{Flip, Network};
 use lz_base::{Items, Name, Num, OutOfMemory, Port};
 use n_cells::Flop;
 use std::alloc::Global;
+
+/// A name again.
+pub(crate) fn copy(alloc: Global, name: &Name) -> Result<Name, OutOfMemory>
+    ensures { IfOk result (λ n. n ≡ name.now) }
+{
+    Name::new(alloc, name.bytes())
+}
+
+/// The name of the clock again, where there is one.
+pub(crate) fn clock_of(alloc: Global, clock: Option<&Name>) -> Result<Option<Name>, OutOfMemory>
+    ensures { IfOk result (λ n. n ≡ option_copied clock.entry) }
+{
+    match clock {
+        Some(name) => Ok(Some(copy(alloc, name)?)),
+        None => Ok(None),
+    }
+}
+
+/// The inputs again.
+pub(crate) fn input_ports(alloc: Global, inputs: &[Port]) -> Result<Items<Port>, OutOfMemory>
+    ensures { IfOk result (λ ports. ports ≡ inputs.now) }
+{
+    let mut ports = Items::new(alloc);
+    for input in inputs {
+        let name = copy(alloc, &input.name)?;
+        ports.push(Port {
+            name,
+            width: input.width,
+        })?;
+    }
+    Ok(ports)
+}
 
 /// The flip-flops over nets. Each may give an inverter for its data, and then one for its enable.
 pub(crate) fn flops_of(
@@ -66,7 +98,7 @@ fn port_at(alloc: Global, network: &Network, index: usize) -> Result<Port, OutOf
     requires { index < length network.now.outputs }
     ensures { IfOk result (λ port. option_map port_of (slice_get network.now.outputs index) ≡ Some port) }
 {
-    let name = Name::new(alloc, network.output_name(index).bytes())?;
+    let name = copy(alloc, network.output_name(index))?;
     let width = network.output_literals(index).len() as u32;
     Ok(Port { name, width })
 }

@@ -1,7 +1,8 @@
-ghost use Rattle.std.specs.Prelude.{◌≡◌, length, OnOk};
+ghost use Rattle.std.specs.Prelude.{◌≡◌, ◌≤◌, length, IfSome, OnOk};
 ghost use Rattle.std.specs.Option.{option_copied};
+ghost use Rattle.n_cells.specs.Leaves.{most_leaves};
 ghost use Rattle.m_valid.specs.Assembly.{with_gate, with_gates};
-ghost use Rattle.m_assembly.specs.Cursor.{Ascend, first_line, from_root};
+ghost use Rattle.m_assembly.specs.Cursor.{AreCuts, first_line, from_root};
 
 use crate::draft::Draft;
 use g_net::{Gate, Line};
@@ -23,7 +24,9 @@ fn from_root(lines: &[Line], number: Num) -> &[Line]
 
 // The first line, where it is that of this node.
 fn first_line(lines: &[Line], node: Num) -> Option<&Line>
-    ensures { option_copied result ≡ first_line lines.now node }
+    requires { AreCuts node lines.now }
+    ensures first { option_copied result ≡ first_line lines.now node }
+    ensures few { IfSome result (λ l. length l.now.leaves ≤ most_leaves) }
 {
     let (line, _) = lines.split_first()?;
     if line.root == node { Some(line) } else { None }
@@ -31,7 +34,7 @@ fn first_line(lines: &[Line], node: Num) -> Option<&Line>
 
 // Appends what a gate gives, where the lines are those from its node on.
 fn push_gate(draft: &mut Draft, lines: &[Line], gate: Gate) -> Result<(), OutOfMemory>
-    requires { Ascend (length draft.old.nets) lines.now }
+    requires { AreCuts (length draft.old.nets) lines.now }
     ensures { OnOk result (draft.new ≡ with_gate lines.now draft.old gate) }
 {
     let node = draft.node();
@@ -42,13 +45,13 @@ fn push_gate(draft: &mut Draft, lines: &[Line], gate: Gate) -> Result<(), OutOfM
     }
 }
 
-/// Appends what gates give. The lines are in the order of their roots.
+/// Appends what gates give. The lines are in the order of their roots, and none has more leaves than a look-up table.
 pub(crate) fn push_gates(
     draft: &mut Draft,
     lines: &[Line],
     gates: &[Gate],
 ) -> Result<(), OutOfMemory>
-    requires { Ascend 0 lines.now }
+    requires { AreCuts 0 lines.now }
     ensures { OnOk result (draft.new ≡ with_gates lines.now draft.old gates.now) }
 {
     let mut rest = lines;

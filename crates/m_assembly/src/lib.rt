@@ -11,7 +11,5 @@ mod assembling;
 mod draft;
 mod ends;
 mod gates;
-mod making;
-mod piece;
 
 pub use assembling::assemble;

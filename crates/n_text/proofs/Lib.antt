@@ -8,6 +8,5 @@ pub mod Standing
 pub mod Wholes
 pub mod Lengths
 pub mod Referring
-pub mod Filling
 pub mod Faulting
 pub mod Texts

@@ -1,6 +1,5 @@
 pub mod Raw
-pub mod Parts
-pub mod Cells
+pub mod Lent
 pub mod Keys
 pub mod Grammar
 pub mod Referred

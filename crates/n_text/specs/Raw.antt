@@ -6,10 +6,6 @@ use Rattle.n_cells.specs.Netlist.{NetlistValue}
 use Rattle.n_cells.specs.Text.{first_line, flop_line, cell_line, output_lines}
 use Rattle.n_text.specs.declared.line.Line.{Line}
 use Rattle.n_text.specs.declared.line.Line.TheVariants.{Clock, Input, Flop, Cell, Output}
-use Rattle.n_text.specs.declared.raw.Raw.TheInside as raw
-
-abbrev pub raw_value : raw.Inside → NetlistValue
-raw_value n = record { name = n.name; clock = n.clock; inputs = n.inputs; flops = n.flops; cells = n.cells; outputs = n.outputs; nets = n.nets }
 
 abbrev pub bare : List ℕ → NetlistValue
 bare name = record { name = name; clock = None; inputs = []; flops = []; cells = []; outputs = []; nets = [] }

@@ -2,9 +2,9 @@ ghost use Rattle.std.specs.Prelude.{◌≡◌, ◌≤◌, ◌<◌, ◌+◌, ◌*
 ghost use Rattle.lz_circuit.specs.Lines.{HaveWidths, port_bits};
 ghost use Rattle.n_cells.specs.Netlist.{first_net, cell_nets};
 
-use crate::raw_cell::RawCell;
 use lz_base::Port;
 use n_cells::Flop;
+use n_parts::Piece;
 
 // The bits of all ports.
 fn count_bits(ports: &[Port]) -> u128
@@ -29,7 +29,7 @@ pub(crate) fn count_front(inputs: &[Port], flops: &[Flop]) -> u128
 }
 
 /// The nets of all cells.
-pub(crate) fn count_nets(cells: &[RawCell]) -> u128
+pub(crate) fn count_nets(cells: &[Piece]) -> u128
     ensures count { result ≡ cell_nets cells.now }
     ensures bound { result < 2 ^ 66 }
 {

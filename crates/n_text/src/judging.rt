@@ -8,10 +8,10 @@ ghost use Rattle.n_cells.specs.Netlist.{cell_nets, FillOutputs, HasShape, HaveSh
 ghost use Rattle.n_cells.specs.Text.{cell_line, flop_line, output_lines};
 ghost use Rattle.n_text.specs.Referred.{flop_nets, wrong_cell, wrong_cells, wrong_flops, wrong_outputs};
 
-use crate::raw_cell::RawCell;
 use lz_base::{Items, Num, Port, Rule, Stop};
 use lz_lines::{judge_numbers, judge_output};
 use n_cells::{Cell, Flop, Format};
+use n_parts::Piece;
 use std::collections::BTreeSet;
 
 // Judges the line of a flip-flop that begins at this place, and gives the place behind it.
@@ -72,7 +72,7 @@ fn judge_cell(cell: Cell<'_>, next: u128, at: usize) -> Result<usize, Stop>
 }
 
 /// Judges the lines of cells, the first of which begins at this place and has this net, and gives the place behind them.
-pub(crate) fn judge_cells(cells: &[RawCell], first: u128, at: usize) -> Result<usize, Stop>
+pub(crate) fn judge_cells(cells: &[Piece], first: u128, at: usize) -> Result<usize, Stop>
     requires shapes { HaveShapes cells.now }
     requires nets { first + cell_nets cells.now < 2 ^ 128 }
     requires room { at + length (flat_map cell_line cells.now) < 2 ^ 64 }

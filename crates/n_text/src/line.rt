@@ -1,7 +1,7 @@
-use crate::raw_cell::RawCell;
 use lz_base::{Items, Name, Num, Port};
 use lz_lines::Keyword;
 use n_cells::Flop;
+use n_parts::Piece;
 
 /// The word that begins a line.
 #[derive(Clone, Copy)]
@@ -21,7 +21,7 @@ pub(crate) enum Line {
     Clock(Name),
     Input(Port),
     Flop(Flop),
-    Cell(RawCell),
+    Cell(Piece),
     Output(Port, Items<Num>),
 }
 

@@ -7,12 +7,12 @@ ghost use Rattle.n_text.specs.Grammar.{IsEnable, IsNext, Tail};
 ghost use Rattle.n_text.specs.Keys.{key_word};
 
 use crate::line::{Key, Line};
-use crate::raw_cell::RawCell;
 use lz_base::{Items, Num, Port};
 use lz_lines::{
     Unread, end_line, read_bit, read_key, read_name_copy, read_number, read_numbers, read_table,
 };
-use n_cells::{Flop, Format, LEAVES};
+use n_cells::{Flop, Format, LEAVES, Leaves};
+use n_parts::Piece;
 use std::alloc::Global;
 
 fn read_clock<'a>(alloc: Global, bytes: &'a [u8]) -> Result<(Option<Line>, &'a [u8]), Unread>
@@ -73,7 +73,8 @@ fn read_lut<'a>(
     ensures { Obtains (Tail format Key.Lut) Anything (λ r. r.0) (λ r. r.1.now) bytes.now result }
 {
     let (table, rest) = read_table(bytes, most_leaves(format), nets)?;
-    end_line(Some(Line::Cell(RawCell::lut(nets, table))), rest)
+    let cell = Piece::lut(Leaves::new(nets), table);
+    end_line(Some(Line::Cell(cell)), rest)
 }
 
 fn read_carry(bytes: &[u8]) -> Result<(Option<Line>, &[u8]), Unread>
@@ -82,7 +83,7 @@ fn read_carry(bytes: &[u8]) -> Result<(Option<Line>, &[u8]), Unread>
     let (a, rest) = read_number(bytes, 0, u128::MAX)?;
     let (b, rest) = read_number(rest, 0, u128::MAX)?;
     let (c, rest) = read_number(rest, 0, u128::MAX)?;
-    end_line(Some(Line::Cell(RawCell::carry(a, b, c))), rest)
+    end_line(Some(Line::Cell(Piece::carry(a, b, c))), rest)
 }
 
 fn read_output<'a>(

@@ -1,112 +1,87 @@
 ghost use Rattle.std.specs.Prelude.{◌≡◌, OnOk, IsTrue};
 ghost use Rattle.lz_lines.specs.Keywords.{all_apart};
 ghost use Rattle.n_text.specs.Keys.{key_word, keys, keys_of, none};
-ghost use Rattle.n_text.specs.Parts.{parts_value};
+ghost use Rattle.n_text.specs.Lent.{lent_value};
 ghost use Rattle.n_text.specs.Raw.{bare, with_line};
 
 use crate::line::{Key, Line};
-use crate::raw_cell::RawCell;
 use lz_base::{Items, Name, Num, OutOfMemory, Port};
 use n_cells::Flop;
+use n_parts::{Parts, Piece};
 use std::alloc::Global;
-use std::marker::Model;
 
-/// A netlist whose lines were read, whatever its nets and names refer to.
-#[derive(Drop)]
-pub(crate) struct Raw {
-    pub(crate) name: Name,
-    pub(crate) clock: Option<Name>,
-    pub(crate) inputs: Items<Port>,
-    pub(crate) flops: Items<Flop>,
-    pub(crate) cells: Items<RawCell>,
-    pub(crate) outputs: Items<Port>,
-    pub(crate) nets: Items<Items<Num>>,
-}
-
-/// The same, lent.
+/// The parts of a netlist, lent.
 #[derive(Clone, Copy)]
-pub(crate) struct Parts<'a> {
+pub(crate) struct Lent<'a> {
     pub(crate) name: &'a Name,
     pub(crate) clock: Option<&'a Name>,
     pub(crate) inputs: &'a [Port],
     pub(crate) flops: &'a [Flop],
-    pub(crate) cells: &'a [RawCell],
+    pub(crate) cells: &'a [Piece],
     pub(crate) outputs: &'a [Port],
     pub(crate) nets: &'a [Items<Num>],
 }
 
-impl Model for Raw {
-    ghost use Rattle.n_cells.specs.Netlist.{NetlistValue};
-
-    ghost Value = { NetlistValue };
-
-    ghost use Rattle.n_text.specs.Raw.{raw_value};
-
-    ghost view = { raw_value };
+/// Lends parts.
+pub(crate) fn lend(parts: &Parts) -> Lent<'_>
+    ensures { lent_value result ≡ parts.now }
+{
+    Lent {
+        name: &parts.name,
+        clock: parts.clock.as_ref(),
+        inputs: parts.inputs.as_slice(),
+        flops: parts.flops.as_slice(),
+        cells: parts.cells.as_slice(),
+        outputs: parts.outputs.as_slice(),
+        nets: parts.nets.as_slice(),
+    }
 }
 
-impl Raw {
-    /// No line but the model's was read.
-    pub(crate) fn new(alloc: Global, name: Name) -> Raw
-        ensures { result ≡ bare name }
-    {
-        Raw {
-            name,
-            clock: None,
-            inputs: Items::new(alloc),
-            flops: Items::new(alloc),
-            cells: Items::new(alloc),
-            outputs: Items::new(alloc),
-            nets: Items::new(alloc),
+/// No line but the model's was read.
+pub(crate) fn bare(alloc: Global, name: Name) -> Parts
+    ensures { result ≡ bare name }
+{
+    Parts {
+        name,
+        clock: None,
+        inputs: Items::new(alloc),
+        flops: Items::new(alloc),
+        cells: Items::new(alloc),
+        outputs: Items::new(alloc),
+        nets: Items::new(alloc),
+    }
+}
+
+/// One line more.
+pub(crate) fn add(parts: &mut Parts, line: Line) -> Result<(), OutOfMemory>
+    ensures { OnOk result (parts.new ≡ with_line parts.old line) }
+{
+    match line {
+        Line::Clock(name) => parts.clock = Some(name),
+        Line::Input(port) => parts.inputs.push(port)?,
+        Line::Flop(flop) => parts.flops.push(flop)?,
+        Line::Cell(cell) => parts.cells.push(cell)?,
+        Line::Output(port, nets) => {
+            parts.outputs.push(port)?;
+            parts.nets.push(nets)?;
         }
     }
+    Ok(())
+}
 
-    /// Its parts.
-    pub(crate) fn parts(&self) -> Parts<'_>
-        ensures { parts_value result ≡ self.now }
-    {
-        Parts {
-            name: &self.name,
-            clock: self.clock.as_ref(),
-            inputs: self.inputs.as_slice(),
-            flops: self.flops.as_slice(),
-            cells: self.cells.as_slice(),
-            outputs: self.outputs.as_slice(),
-            nets: self.nets.as_slice(),
-        }
-    }
-
-    /// One line more.
-    pub(crate) fn add(&mut self, line: Line) -> Result<(), OutOfMemory>
-        ensures { OnOk result (self.new ≡ with_line self.old line) }
-    {
-        match line {
-            Line::Clock(name) => self.clock = Some(name),
-            Line::Input(port) => self.inputs.push(port)?,
-            Line::Flop(flop) => self.flops.push(flop)?,
-            Line::Cell(cell) => self.cells.push(cell)?,
-            Line::Output(port, nets) => {
-                self.outputs.push(port)?;
-                self.nets.push(nets)?;
-            }
-        }
-        Ok(())
-    }
-
-    /// The words of the lines that may come next, besides the end's: lines stand in the order of the kinds, and
-    /// flip-flops only behind a clock line.
-    pub(crate) fn keys(&self) -> &'static [Key]
-        ensures keys { result.now ≡ keys_of self.now }
-        ensures apart { IsTrue (all_apart key_word Key.End result.now) }
-    {
-        keys(
-            is_none(self.outputs.as_slice()),
-            is_none(self.cells.as_slice()),
-            is_none(self.flops.as_slice()),
-            self.clock.is_some(),
-            is_none(self.inputs.as_slice()),
-        )
-    }
+/// The words of the lines that may come next, besides the end's: lines stand in the order of the kinds, and flip-flops
+/// only behind a clock line.
+pub(crate) fn keys_of(parts: &Parts) -> &'static [Key]
+    ensures keys { result.now ≡ keys_of parts.now }
+    ensures apart { IsTrue (all_apart key_word Key.End result.now) }
+{
+    keys(
+        is_none(parts.outputs.as_slice()),
+        is_none(parts.cells.as_slice()),
+        is_none(parts.flops.as_slice()),
+        parts.clock.is_some(),
+        is_none(parts.inputs.as_slice()),
+    )
 }
 
 // The words of the lines that may come next, for whether there are no outputs, cells and flip-flops yet, whether there is

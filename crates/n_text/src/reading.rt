@@ -6,11 +6,12 @@ ghost use Rattle.n_cells.specs.Netlist.{NetlistValue, IsWellFormed};
 ghost use Rattle.n_cells.specs.Text.{text};
 ghost use Rattle.n_text.specs.Answers.{IsRefusal, IsTextOf};
 
-use crate::making::make;
+use crate::raw::lend;
 use crate::raw_reading::read_raw;
 use crate::references::judge;
 use lz_base::{Rule, Stop};
 use n_cells::{Format, Netlist};
+use n_parts::make;
 use std::alloc::Global;
 
 /// The netlist whose text in format 2 the bytes are.
@@ -55,6 +56,6 @@ fn read_in(alloc: Global, format: Format, bytes: &[u8]) -> Result<Netlist, Stop>
         Ok(raw) => raw,
         Err(unread) => return Err(unread.stop(bytes.len(), Rule::N1)),
     };
-    judge(alloc, format, raw.parts())?;
+    judge(alloc, format, lend(&raw))?;
     Ok(make(alloc, raw)?)
 }

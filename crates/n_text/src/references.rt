@@ -4,13 +4,13 @@ ghost use Rattle.lz_base.specs.declared.rule.Rule.TheVariants.{N2};
 ghost use Rattle.lz_lines.specs.References.{IsWrong};
 ghost use Rattle.n_cells.specs.Form.{HasForm};
 ghost use Rattle.n_cells.specs.Text.{text};
-ghost use Rattle.n_text.specs.Parts.{parts_value};
+ghost use Rattle.n_text.specs.Lent.{lent_value};
 ghost use Rattle.n_text.specs.Raw.{model_line};
 ghost use Rattle.n_text.specs.Referred.{wrong_places};
 
 use crate::counting::{count_front, count_nets};
 use crate::judging::{judge_cells, judge_flops, judge_outputs};
-use crate::raw::Parts;
+use crate::raw::Lent;
 use lz_base::{Name, Rule, Stop, no_names};
 use lz_lines::{judge_inputs, meet_clock};
 use n_cells::Format;
@@ -27,13 +27,13 @@ fn behind_model(format: Format, name: &Name) -> usize
 
 /// Judges the references of lines that were read: the fault N2 is at the least byte of a wrong number or of a name that
 /// stands twice.
-pub(crate) fn judge(alloc: Global, format: Format, parts: Parts<'_>) -> Result<(), Stop>
-    requires form { HasForm format (parts_value parts) }
-    requires room { length (text format (parts_value parts)) ≤ text_limit }
-    ensures right { OnOk result (wrong_places format (parts_value parts.entry) ≡ []) }
-    ensures fault { IfErr result (IsWrong N2 (wrong_places format (parts_value parts.entry))) }
+pub(crate) fn judge(alloc: Global, format: Format, parts: Lent<'_>) -> Result<(), Stop>
+    requires form { HasForm format (lent_value parts) }
+    requires room { length (text format (lent_value parts)) ≤ text_limit }
+    ensures right { OnOk result (wrong_places format (lent_value parts.entry) ≡ []) }
+    ensures fault { IfErr result (IsWrong N2 (wrong_places format (lent_value parts.entry))) }
 {
-    let Parts {
+    let Lent {
         name,
         clock,
         inputs,

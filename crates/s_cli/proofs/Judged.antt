@@ -1,6 +1,7 @@
 -- The status that a source calls for.
-use Rattle.std.proofs.Common.{◌≡◌, ◌<◌, ◌≤◌, ℕ, List, [], ◌∷◌, length, Some, Err, refl, ap, sym, arith, inl, inr, ◌∙◌}
+use Rattle.std.proofs.Common.{◌≡◌, ◌<◌, ◌≤◌, ℕ, List, [], ◌∷◌, length, Some, Err, Vec, refl, ap, sym, arith, inl, inr, ◌∙◌}
 use Rattle.std.proofs.lemmas.Option.{none-some, same_Some}
+use Rattle.std.specs.declared.alloc.Global.{Global}
 use Rattle.lz_base.specs.Limits.{source_limit}
 use Rattle.lz_base.specs.declared.fault.Fault.{Fault}
 use Rattle.lz_base.specs.declared.fault.Stop.{Stop}
@@ -110,11 +111,11 @@ judged_memory source = record {
 }
 
 -- what the reader of small modules refuses
-pub small_refused : OneReading → (source : List ℕ) (e : Stop) → length source ≤ source_limit → IsRead source (Err e) → Decides command.Synth (source ∷ []) (Err e)
+pub small_refused : OneReading → (source : List ℕ) (e : Stop) → length source ≤ source_limit → IsRead source (Err e) → Decides (λ (v : Vec ℕ Global). IsTranslation source v.items) command.Synth (source ∷ []) (Err e)
 small_refused one source (stop.Fault fault) within (inl broken) = (inr (within, inl broken), judged_broken one source fault within broken)
 small_refused one source (stop.Fault fault) within (inr r) = (inr (within, inr r), judged_unmade one source fault r.tokens within r.lexed r.holds)
 small_refused one source stop.OutOfMemory within broken = tt
 
 -- and a source that is longer than it may be
-pub longer_refused : (source : List ℕ) → source_limit < length source → Decides command.Synth (source ∷ []) (Err (stop.Fault (record { rule = E1; at = source_limit })))
+pub longer_refused : (source : List ℕ) → source_limit < length source → Decides (λ (v : Vec ℕ Global). IsTranslation source v.items) command.Synth (source ∷ []) (Err (stop.Fault (record { rule = E1; at = source_limit })))
 longer_refused source longer = (inl (record { longer = longer; fault_is = refl }), judged_long source longer)

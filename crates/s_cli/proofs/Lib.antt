@@ -1,4 +1,5 @@
 pub mod Judged
+pub mod Reported
 pub mod Simulated
 pub mod Texts
 pub mod Upgraded

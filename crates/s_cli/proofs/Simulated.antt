@@ -57,13 +57,13 @@ refused_second whole more n (stop.Fault fault) reads drives a b is other =
     )
 refused_second whole more n stop.OutOfMemory reads drives a b is other = tt
 
-pub simn_refused : (a b : List ℕ) (e : Stop) → AreRefused a b e → Decides command.Simn (a ∷ b ∷ []) (Err e)
-simn_refused a b (stop.Fault fault) h = h
-simn_refused a b stop.OutOfMemory h = tt
+pub simn_refused : (IsRight : Vec ℕ Global → Type 0) (a b : List ℕ) (e : Stop) → AreRefused a b e → Decides IsRight command.Simn (a ∷ b ∷ []) (Err e)
+simn_refused IsRight a b (stop.Fault fault) h = h
+simn_refused IsRight a b stop.OutOfMemory h = tt
 
-pub lanes_refused : (count : ℕ) (a b : List ℕ) (e : Stop) → AreRefused a b e → Decides (command.Lanes count) (a ∷ b ∷ []) (Err e)
-lanes_refused count a b (stop.Fault fault) h = h
-lanes_refused count a b stop.OutOfMemory h = tt
+pub lanes_refused : (IsRight : Vec ℕ Global → Type 0) (count : ℕ) (a b : List ℕ) (e : Stop) → AreRefused a b e → Decides IsRight (command.Lanes count) (a ∷ b ∷ []) (Err e)
+lanes_refused IsRight count a b (stop.Fault fault) h = h
+lanes_refused IsRight count a b stop.OutOfMemory h = tt
 
 -- the trace of both, from what was read and what was shown
 pub simulated : (shows : NetlistValue → List (List WordValue) → List (List WordValue) → Type 0) (whole more : Option (Vec ℕ Global)) (n : NetlistValue) (s : Stimulus) (shown : List (List WordValue)) (bytes : List ℕ)

@@ -4,5 +4,6 @@ pub mod Status
 pub mod Synthesis
 pub mod Simulation
 pub mod Upgrade
+pub mod Mapping
 pub mod Answers
 pub mod Reading

@@ -36,6 +36,12 @@ status_line status.OutOfMemory = codes "error: memory" ++ 10 ∷ []
 abbrev pub Writes : ℕ → ℕ → Option (List ℕ) → Option (List ℕ) → List ℕ → Type 0
 Writes before now old new bytes = ((now ≡ before) × Appends old new bytes) ⊎ (Rose before now × ((sent : ℕ) × Appends old new (take sent bytes)))
 
+-- Two texts went out, and no call failed; or a call failed, and a front of each went out.
+abbrev pub WritesBoth : ℕ → ℕ → Option (List ℕ) → Option (List ℕ) → List ℕ → List ℕ → Type 0
+WritesBoth before now old new first second =
+    ((now ≡ before) × Appends old new (first ++ second))
+    ⊎ (Rose before now × ((sent : ℕ) × (more : ℕ) × Appends old new (take sent first ++ take more second)))
+
 -- a fact for one status
 
 abbrev pub OnDone : Status → Type 0 → Type 0

@@ -3,6 +3,10 @@
 pub enum Command {
     /// `synth FILE`
     Synth,
+    /// `map NETWORK`
+    Map,
+    /// `map NETWORK PROPOSAL`
+    MapFile,
     /// `simn NETLIST STIM`
     Simn,
     /// `lanes NETLIST STIM COUNT`, where COUNT is one or two decimal digits, from 1 to 64.

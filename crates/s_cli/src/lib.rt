@@ -1,12 +1,13 @@
 //! The top call: what the words ask, done on files and sinks that are handed in.
 //!
-//! It stands on `s_flow`, which makes the netlist, on `n_text`, which prints it, and on the traits of the outside of
-//! `lz_base`. `run` promises for each form of words when each status comes, what was written, and which line went to
-//! the errors.
+//! It stands on `s_flow`, which makes the netlist of a source, on `s_map`, which makes that of a network, on `n_text`,
+//! which prints netlists, and on the traits of the outside of `lz_base`. `run` promises for each form of words and for
+//! every mapper when each status comes, what was written, and which note and line went to the errors.
 #![tactic(auto)]
 
 mod answering;
 mod forms;
+mod mapping;
 mod reading;
 mod reporting;
 mod running;

@@ -35,8 +35,8 @@ fn refusal(fault: Fault) -> ArrayString<LINE>
     line
 }
 
-// Writes bytes, and lets a fault be.
-fn write_line<E: Sink>(err: &mut E, bytes: &[u8])
+/// Writes bytes, and lets a fault be. It takes no memory.
+pub(crate) fn write_line<E: Sink>(err: &mut E, bytes: &[u8])
     ensures { Writes (E.faults err.old) (E.faults err.new) (E.written err.old) (E.written err.new) bytes.now }
 {
     match write_all(err, bytes) {

@@ -4,6 +4,7 @@ ghost use Rattle.n_cells.specs.declared.format.Format.TheVariants as format;
 ghost use Rattle.s_cli.specs.Answers.{Decides};
 ghost use Rattle.s_cli.specs.declared.forms.Command.TheVariants as command;
 ghost use Rattle.s_cli.specs.Reading.{Drives, Reads};
+ghost use Rattle.s_cli.specs.Simulation.{IsSimulation, ShowsRun, ShowsStreams};
 ghost use Rattle.s_cli.specs.Texts.{IsShort, IsWhole};
 ghost use Rattle.s_flow.specs.Simulation.{widths_of};
 ghost use Rattle.t_trace.specs.Widths.{CyclesFit};
@@ -53,7 +54,7 @@ pub(crate) fn trace(
 ) -> Result<Vec<u8>, Stop>
     requires netlist { IsShort text_limit netlist.now }
     requires stimulus { IsShort text_limit stimulus.now }
-    ensures { (a b : List ℕ) → IsWhole text_limit netlist.now a → IsWhole text_limit stimulus.now b → Decides command.Simn (a ∷ b ∷ []) result }
+    ensures { (a b : List ℕ) → IsWhole text_limit netlist.now a → IsWhole text_limit stimulus.now b → Decides (λ v. IsSimulation ShowsRun a b v.items) command.Simn (a ∷ b ∷ []) result }
 {
     let netlist = netlist_of(alloc, netlist)?;
     let stimulus = match stimulus_of(alloc, &netlist, stimulus) {
@@ -76,7 +77,7 @@ pub(crate) fn trace_lanes(
     requires stimulus { IsShort text_limit stimulus.now }
     requires some { 1 ≤ count }
     requires most { count ≤ 64 }
-    ensures { (a b : List ℕ) → IsWhole text_limit netlist.now a → IsWhole text_limit stimulus.now b → Decides (command.Lanes count) (a ∷ b ∷ []) result }
+    ensures { (a b : List ℕ) → IsWhole text_limit netlist.now a → IsWhole text_limit stimulus.now b → Decides (λ v. IsSimulation (ShowsStreams count) a b v.items) (command.Lanes count) (a ∷ b ∷ []) result }
 {
     let netlist = netlist_of(alloc, netlist)?;
     let stimulus = match stimulus_of(alloc, &netlist, stimulus) {

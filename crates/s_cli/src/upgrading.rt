@@ -5,6 +5,7 @@ ghost use Rattle.s_cli.specs.Answers.{Decides};
 ghost use Rattle.s_cli.specs.declared.forms.Command.TheVariants as command;
 ghost use Rattle.s_cli.specs.Reading.{Reads};
 ghost use Rattle.s_cli.specs.Texts.{IsShort, IsWhole};
+ghost use Rattle.s_cli.specs.Upgrade.{IsUpgrade};
 
 use lz_base::{Fault, Rule, Stop, TEXT_LIMIT};
 use n_cells::{Netlist, machine_lasts, old_run};
@@ -27,7 +28,7 @@ fn old_netlist_of(alloc: Global, text: &Option<Vec<u8>>) -> Result<Netlist, Stop
 /// What `upgrade NETLIST` writes: the netlist of format 1 in format 2.
 pub(crate) fn upgrade(alloc: Global, old: &Option<Vec<u8>>) -> Result<Vec<u8>, Stop>
     requires { IsShort text_limit old.now }
-    ensures { (bytes : List ℕ) → IsWhole text_limit old.now bytes → Decides command.Upgrade (bytes ∷ []) result }
+    ensures { (bytes : List ℕ) → IsWhole text_limit old.now bytes → Decides (λ v. IsUpgrade bytes v.items) command.Upgrade (bytes ∷ []) result }
 {
     let netlist = old_netlist_of(alloc, old)?;
     machine_lasts();

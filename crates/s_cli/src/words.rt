@@ -36,7 +36,9 @@ pub fn command(words: &[String]) -> Option<Command>
 {
     match words {
         [verb, _] if verb.as_str() == "synth" => Some(Command::Synth),
+        [verb, _] if verb.as_str() == "map" => Some(Command::Map),
         [verb, _] if verb.as_str() == "upgrade" => Some(Command::Upgrade),
+        [verb, _, _] if verb.as_str() == "map" => Some(Command::MapFile),
         [verb, _, _] if verb.as_str() == "simn" => Some(Command::Simn),
         [verb, _, _, count] if verb.as_str() == "lanes" => lanes_by(count.as_bytes()),
         _ => None,
@@ -48,8 +50,8 @@ pub(crate) fn file_count(command: Command) -> usize
     ensures { result ≡ length (limits_of command) }
 {
     match command {
-        Command::Synth | Command::Upgrade => 1,
-        Command::Simn | Command::Lanes { .. } => 2,
+        Command::Synth | Command::Map | Command::Upgrade => 1,
+        Command::MapFile | Command::Simn | Command::Lanes { .. } => 2,
     }
 }
 
@@ -61,6 +63,10 @@ pub(crate) fn limit(command: Command, index: usize) -> u64
 {
     match command {
         Command::Synth => SOURCE_LIMIT,
-        Command::Simn | Command::Lanes { .. } | Command::Upgrade => TEXT_LIMIT,
+        Command::Map
+        | Command::MapFile
+        | Command::Simn
+        | Command::Lanes { .. }
+        | Command::Upgrade => TEXT_LIMIT,
     }
 }

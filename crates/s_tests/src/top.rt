@@ -1,4 +1,6 @@
-use lz_base::{Fault, MemFiles, MemSink, Rule};
+use g_net::{Leaves, Line, Proposal};
+use lz_base::{Fault, Items, MemFiles, MemSink, Num, OutOfMemory, Rule};
+use m_mapper::{FixedMapper, Mapper};
 use s_cli::{Command, Status, command, run};
 use std::alloc::{AllocError, Global};
 use std::test::Fail;
@@ -14,6 +16,16 @@ const OLD: &[u8] =
 
 const STIMULUS: &[u8] = b"stim 1\nin 1\nin 0\nin 1\nin 1\nend\n";
 
+const NETWORK: &[u8] =
+    b"network 2\nmodel u\ninput a 1\ninput b 1\ninput c 1\nand 2 4\nand 8 6\noutput y 10\nend\n";
+
+// What one table of three leaves makes of that network, and what the plain proposal does.
+const ONE_TABLE: &[u8] =
+    b"lutnet 2\nmodel u\ninput a 1\ninput b 1\ninput c 1\nlut 3 2 3 4 80\noutput y 5\nend\n";
+
+const TWO_TABLES: &[u8] =
+    b"lutnet 2\nmodel u\ninput a 1\ninput b 1\ninput c 1\nlut 2 2 3 8\nlut 2 4 5 8\noutput y 6\nend\n";
+
 const NOTHING: &[u8] = b"";
 
 fn word_list(alloc: Global, words: &[&str]) -> Result<Vec<String>, AllocError> {
@@ -24,28 +36,42 @@ fn word_list(alloc: Global, words: &[&str]) -> Result<Vec<String>, AllocError> {
     Ok(list)
 }
 
-// A source `v`, netlists `n` and `o` of both formats, a stimulus `s`, and a text `b` that is none of them. The calls of
+// A source `v`, netlists `n` and `o` of both formats, a stimulus `s`, a network `k`, and a text `b` that is none of them. The calls of
 // these numbers fail.
 fn all_files(alloc: Global, fail: &[u64]) -> Result<MemFiles, AllocError> {
     let source = SOURCE.to_vec(alloc)?;
     let netlist = NETLIST.to_vec(alloc)?;
     let old = OLD.to_vec(alloc)?;
     let stimulus = STIMULUS.to_vec(alloc)?;
+    let network = NETWORK.to_vec(alloc)?;
     let other = b"module".as_slice().to_vec(alloc)?;
     let files = vec![in alloc;
         (String::from_str(alloc, "v")?, source),
         (String::from_str(alloc, "n")?, netlist),
         (String::from_str(alloc, "o")?, old),
         (String::from_str(alloc, "s")?, stimulus),
+        (String::from_str(alloc, "k")?, network),
         (String::from_str(alloc, "b")?, other),
     ]?;
     Ok(MemFiles::new(files, fail.to_vec(alloc)?))
 }
 
+// A mapper whose answer has this one line.
+fn fixed(alloc: Global, root: Num, leaves: &[Num], table: u64) -> Result<FixedMapper, OutOfMemory> {
+    let leaves = Leaves::from_slice(alloc, leaves)?;
+    let mut lines = Items::new(alloc);
+    lines.push(Line {
+        root,
+        leaves,
+        table,
+    })?;
+    Ok(FixedMapper::new(alloc, Proposal { lines }))
+}
+
 #[test]
 fn each_form_has_its_answer(rt: HostRuntime) -> Result<(), Fail> {
     let refused = |rule: Rule, at: u64| Status::Refused(Fault { rule, at });
-    let cases: [(&[&str], Status, &[u8], &[u8]); 10] = [
+    let cases: [(&[&str], Status, &[u8], &[u8]); 13] = [
         (&["synth", "v"], Status::Ok, NETLIST, NOTHING),
         (
             &["simn", "n", "s"],
@@ -60,6 +86,19 @@ fn each_form_has_its_answer(rt: HostRuntime) -> Result<(), Fail> {
             NOTHING,
         ),
         (&["upgrade", "o"], Status::Ok, NETLIST, NOTHING),
+        (&["map", "k"], Status::Ok, ONE_TABLE, NOTHING),
+        (
+            &["map", "k", "b"],
+            Status::Ok,
+            TWO_TABLES,
+            b"note: proposal unreadable\n",
+        ),
+        (
+            &["map", "b"],
+            refused(Rule::G1, 0),
+            NOTHING,
+            b"error: G1 at 0\n",
+        ),
         (
             &["synth", "b"],
             refused(Rule::E3, 6),
@@ -93,12 +132,20 @@ fn each_form_has_its_answer(rt: HostRuntime) -> Result<(), Fail> {
         ),
         (&["Synth", "v"], Status::Usage, NOTHING, b"error: usage\n"),
     ];
+    let mapper: Box<dyn Mapper> = Box::new(rt.alloc(), fixed(rt.alloc(), 5, &[1, 2, 3], 0x80)?)?;
     for (words, status, output, errors) in cases {
         let words = word_list(rt.alloc(), words)?;
         let mut files = all_files(rt.alloc(), &[])?;
         let mut out = MemSink::new(rt.alloc(), 1000, 7)?;
         let mut err = MemSink::new(rt.alloc(), 100, 100)?;
-        let answer = run(rt.alloc(), words.as_slice(), &mut files, &mut out, &mut err);
+        let answer = run(
+            rt.alloc(),
+            words.as_slice(),
+            &mut files,
+            &mut out,
+            &mut err,
+            &mapper,
+        );
         assert_eq!(rt; answer, status);
         assert_eq!(rt; out.bytes(), output);
         assert_eq!(rt; err.bytes(), errors);
@@ -115,11 +162,19 @@ fn each_form_has_its_answer(rt: HostRuntime) -> Result<(), Fail> {
 #[test]
 fn a_failed_call_on_the_files_is_a_read_fault(rt: HostRuntime) -> Result<(), Fail> {
     let words = word_list(rt.alloc(), &["simn", "n", "s"])?;
+    let mapper: Box<dyn Mapper> = Box::new(rt.alloc(), fixed(rt.alloc(), 0, &[], 0)?)?;
     for call in 0..7 {
         let mut files = all_files(rt.alloc(), &[call])?;
         let mut out = MemSink::new(rt.alloc(), 1000, 1000)?;
         let mut err = MemSink::new(rt.alloc(), 0, 1)?;
-        let answer = run(rt.alloc(), words.as_slice(), &mut files, &mut out, &mut err);
+        let answer = run(
+            rt.alloc(),
+            words.as_slice(),
+            &mut files,
+            &mut out,
+            &mut err,
+            &mapper,
+        );
         let good = call == 6;
         assert_eq!(rt;
             answer.code(),
@@ -135,11 +190,19 @@ fn a_failed_call_on_the_files_is_a_read_fault(rt: HostRuntime) -> Result<(), Fai
 #[test]
 fn a_full_sink_holds_a_front(rt: HostRuntime) -> Result<(), Fail> {
     let words = word_list(rt.alloc(), &["synth", "v"])?;
+    let mapper: Box<dyn Mapper> = Box::new(rt.alloc(), fixed(rt.alloc(), 0, &[], 0)?)?;
     for room in 0..74 {
         let mut files = all_files(rt.alloc(), &[])?;
         let mut out = MemSink::new(rt.alloc(), room, 1)?;
         let mut err = MemSink::new(rt.alloc(), 5, 100)?;
-        let answer = run(rt.alloc(), words.as_slice(), &mut files, &mut out, &mut err);
+        let answer = run(
+            rt.alloc(),
+            words.as_slice(),
+            &mut files,
+            &mut out,
+            &mut err,
+            &mapper,
+        );
         if room == 73 {
             assert_eq!(rt; answer, Status::Ok);
         } else {
@@ -147,6 +210,56 @@ fn a_full_sink_holds_a_front(rt: HostRuntime) -> Result<(), Fail> {
             assert_eq!(rt; err.bytes(), b"error".as_slice());
         }
         assert_eq!(rt; out.bytes(), &NETLIST[..room]);
+    }
+    Ok(())
+}
+
+// The netlist of a good answer, and of the plain proposal where the answer is a bad or an absurd one; with its note, also
+// where the output finds no room.
+#[test]
+fn no_answer_of_a_mapper_is_refused(rt: HostRuntime) -> Result<(), Fail> {
+    let cases: [(Num, &[Num], u64, &[u8], &[u8], &[u8]); 3] = [
+        (5, &[1, 2, 3], 0x80, ONE_TABLE, NOTHING, b"error: write\n"),
+        (
+            5,
+            &[1, 2, 3],
+            0x81,
+            TWO_TABLES,
+            b"note: proposal refused V4 at 1\n",
+            b"note: proposal refused V4 at 1\nerror: write\n",
+        ),
+        (
+            Num::MAX,
+            &[7, 0, 7],
+            u64::MAX,
+            TWO_TABLES,
+            b"note: proposal refused V1 at 1\n",
+            b"note: proposal refused V1 at 1\nerror: write\n",
+        ),
+    ];
+    let words = word_list(rt.alloc(), &["map", "k"])?;
+    for (root, leaves, table, output, note, errors) in cases {
+        let mapper: Box<dyn Mapper> = Box::new(
+            rt.alloc(),
+            fixed(rt.alloc(), root, leaves, table)?,
+        )?;
+        for (room, status, errors) in [(1000, Status::Ok, note), (6, Status::WriteFault, errors)] {
+            let mut files = all_files(rt.alloc(), &[])?;
+            let mut out = MemSink::new(rt.alloc(), room, 4)?;
+            let mut err = MemSink::new(rt.alloc(), 100, 100)?;
+            let answer = run(
+                rt.alloc(),
+                words.as_slice(),
+                &mut files,
+                &mut out,
+                &mut err,
+                &mapper,
+            );
+            assert_eq!(rt; answer, status);
+            assert_eq!(rt; err.bytes(), errors);
+            assert!(rt; output.starts_with(out.bytes()));
+            assert_eq!(rt; out.bytes().len(), room.min(output.len()));
+        }
     }
     Ok(())
 }

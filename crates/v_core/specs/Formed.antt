@@ -1,7 +1,6 @@
 -- Typed expressions that keep to their widths: each has 1 to 128 bits, and each operand as many as its operator takes
 -- (1364-2005, 5.4.1).
-use Rattle.std.specs.Prelude.{ℕ, ◌+◌, ◌*◌, ◌^◌, ◌==◌, List, [], ◌∷◌, Bool, true, false, ◌&&◌, nat_le, nat_lt, if◌then◌else◌}
-use Rattle.v_syntax.specs.declared.expr.BinaryOperator.{BinaryOperator}
+use Rattle.std.specs.Prelude.{ℕ, ◌+◌, ◌*◌, ◌^◌, ◌==◌, List, [], ◌∷◌, Bool, true, ◌&&◌, nat_le, nat_lt, if◌then◌else◌}
 use Rattle.v_meaning.specs.declared.literal.Literal.{Literal}
 use Rattle.v_meaning.specs.Senses.{Class, Shared, Compared, Shifted, Logical, class_of, is_through}
 use Rattle.v_meaning.specs.declared.names.Kind.{Kind}

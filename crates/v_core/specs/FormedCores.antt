@@ -7,7 +7,6 @@ use Rattle.v_core.specs.declared.statement.TypedTarget.TheOpen.{TypedTarget-F}
 use Rattle.v_core.specs.declared.statement.TypedTarget.TheOpen as t
 use Rattle.v_core.specs.declared.statement.TypedTarget.TheFolds.{fold-TypedTarget}
 use Rattle.v_core.specs.declared.statement.TypedItem.{TypedItem}
-use Rattle.v_core.specs.declared.statement.TypedLabel.{TypedLabel}
 use Rattle.v_core.specs.declared.statement.TypedStmt.{TypedStmt}
 use Rattle.v_core.specs.declared.statement.TypedStmt.TheOpen.{TypedStmt-F, TypedArm-F}
 use Rattle.v_core.specs.declared.statement.TypedStmt.TheOpen as s

@@ -7,7 +7,7 @@ use Rattle.v_syntax.specs.declared.expr.Expr.{Expr}
 use Rattle.v_syntax.specs.declared.expr.BinaryOperator.{BinaryOperator}
 use Rattle.v_parser.specs.declared.miss.Miss.{Miss}
 use Rattle.v_parser.specs.declared.miss.Miss.TheVariants as miss
-use Rattle.v_parser.specs.Reading.{Reader, then_read, shrinking, next, repeat, repeated, is_comma, mark_at, more_at, ◌>>◌}
+use Rattle.v_parser.specs.Reading.{Reader, then_read, shrinking, next, repeat, repeated, is_comma, mark_at, more_at, behind_at, ◌>>◌}
 use Rattle.v_parser.specs.Exprs.{link_at, between_at, has_rank}
 use Rattle.v_parser.specs.Gives.{Fails}
 
@@ -110,3 +110,8 @@ pub repeated_err_in : {A : Type 0} (test : ℕ → Bool) (f : Reader A) (sofar :
     → Fails e (f tokens) → repeated test f sofar tokens ≡ total → Fails e total
 repeated_err_in test f sofar tokens total miss.OutOfMemory goes fails same = tt
 repeated_err_in test f sofar tokens total (miss.At s) goes fails same = sym same ∙ repeated_err test f sofar tokens s.now goes fails
+
+-- where the reading of one more behind a comma fails, so does that of all
+pub behind_err_in : {A : Type 0} (f : Reader A) (sofar : List A) (tokens : List Token) (total : Result (List A × List Token) (List Token)) (e : Miss) → next is_comma tokens ≡ true
+    → Fails e (behind_at m.Comma f tokens) → more_at f sofar tokens ≡ total → Fails e total
+behind_err_in f sofar tokens total e goes fails same = repeated_err_in is_comma (behind_at m.Comma f) sofar tokens total e goes fails same

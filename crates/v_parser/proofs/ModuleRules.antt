@@ -1,11 +1,10 @@
 -- The readers of declarations and modules read the grammar's declarations and modules.
-use Rattle.std.proofs.Common.{◌≡◌, ℕ, Bool, true, false, eqb, ◌||◌, get_or, List, [], ◌∷◌, ◌++◌, length, Option, None, Some, Result, Ok, Err, refl, sym, ap, subst, ◌∙◌, inl, inr, arith}
+use Rattle.std.proofs.Common.{◌≡◌, ℕ, Bool, true, false, ◌||◌, get_or, List, [], ◌∷◌, Option, None, Some, Err, refl, sym, ap, subst, ◌∙◌, inl, inr, arith}
 use Rattle.v_syntax.specs.declared.token.Token.{Token}
 use Rattle.v_syntax.specs.declared.token.Ident.{Ident}
 use Rattle.v_syntax.specs.declared.token.Mark.TheVariants as m
 use Rattle.v_syntax.specs.declared.token.Keyword.{Keyword}
 use Rattle.v_syntax.specs.declared.token.Keyword.TheVariants as k
-use Rattle.v_syntax.specs.declared.module.Declared.{Declared}
 use Rattle.v_syntax.specs.declared.module.Variable.{Variable}
 use Rattle.v_syntax.specs.declared.module.Variable.TheVariants as v
 use Rattle.v_syntax.specs.declared.module.ParameterGroup.{ParameterGroup}
@@ -15,22 +14,21 @@ use Rattle.v_syntax.specs.declared.module.PortKind.TheVariants as p
 use Rattle.v_syntax.specs.declared.module.Event.TheVariants as events
 use Rattle.v_syntax.specs.declared.module.Item.{Item}
 use Rattle.v_syntax.specs.declared.module.Item.TheVariants as i
-use Rattle.v_syntax.specs.declared.module.Module.{Module}
 use Rattle.v_syntax.specs.Rule as r
 use Rattle.v_syntax.specs.Rule.{Rule, ◌>>=◌, ◌>>◌, ◌<|>◌, yields, token, mark, word, ident, here, many, listed, several, optional, flag}
 use Rattle.v_syntax.specs.Grammar.{inner_levels, IsRange}
 use Rattle.v_syntax.specs.StmtGrammar.{IsWhole}
-use Rattle.v_syntax.specs.ModuleGrammar.{IsValue, IsSetting, IsDeclared, IsBare, IsVariable, IsSettings, IsParameterGroup, IsPortKind, IsPort, IsPortGroup, IsParameters, IsPorts, IsParameterItem, IsLocalParameterItem, IsWireItem, IsRegItem, IsAssignItem, IsAnyEvent, IsPosedge, IsEventGroup, IsAlwaysItem, IsItem, IsModule, Derives}
+use Rattle.v_syntax.specs.ModuleGrammar.{IsValue, IsSetting, IsDeclared, IsBare, IsVariable, IsSettings, IsParameterGroup, IsPortKind, IsPort, IsPortGroup, IsParameters, IsPorts, IsParameterItem, IsLocalParameterItem, IsWireItem, IsRegItem, IsAssignItem, IsAnyEvent, IsPosedge, IsEventGroup, IsAlwaysItem, IsItem, IsModule}
 use Rattle.v_parser.specs.Reading as read
 use Rattle.v_parser.specs.Reading.{Reader, then_read, gives, choose, mark_code, word_code, kind, next, next_in, among, mark_at, word_at, repeated, is_comma, more_at, listed_at}
 use Rattle.v_parser.specs.Exprs.{identifiers, only}
 use Rattle.v_parser.specs.Modules.{these, flag_at, range_option_at, value_at, value_option_at, setting_at, declared_at, bare_at, variable_at, settings_at, input_at, output_at, port_kind_at, port_at, parameter_words, port_words, parameter_group_at, port_group_at, parameter_groups_at, port_groups_at, parameters_at, port_list_at, ports_at, parameter_item_at, local_parameter_item_at, wire_item_at, reg_item_at, assign_item_at, any_event_at, posedge_at, inner_event_at, event_group_at, event_at, always_item_at, item_at, not_endmodule, enclosed_items_at, body_at, module_at}
-use Rattle.v_parser.proofs.Exact.{SameNext, Reads, Begins, Differs, reads_bind, reads_then, reads_yields, reads_choose, reads_same, leads_yields, leads_bind, reads_led, reads_looser, reads_closed, begins_bind, begins_or, begins_among, none, apart, opens, silent, others, nothing, next_or, next_fewer, passes, only_end, ok_value, ok_rest}
+use Rattle.v_parser.proofs.Exact.{Reads, Begins, Differs, reads_bind, reads_then, reads_yields, reads_choose, reads_same, leads_yields, leads_bind, reads_led, reads_looser, reads_closed, begins_bind, begins_or, begins_among, none, apart, opens, silent, others, nothing, next_or, next_fewer, passes, only_end}
 use Rattle.v_parser.proofs.Single.{reads_mark, reads_word, reads_ident}
 use Rattle.v_parser.proofs.Many.{Repeats, reads_many, reads_listed, list_goes}
 use Rattle.v_parser.proofs.Primaries.{begins_mark, begins_ident, operand_goes, binary_goes, expr_goes, reads_placed, reads_range}
 use Rattle.v_parser.proofs.TargetRules.{begins_word, reads_whole}
-use Rattle.std.specs.Prelude.{nat_le, ⊤}
+use Rattle.std.specs.Prelude.{nat_le}
 use Rattle.v_parser.specs.Exprs.{ranks}
 use Rattle.v_parser.specs.Stmts.{elses}
 use Rattle.lz_base.specs.declared.rule.Rule.TheVariants.{E3}

@@ -16,7 +16,7 @@ use Rattle.v_syntax.specs.Grammar.{between, binary_of, rank_of, IsNumber, placed
 use Rattle.v_parser.specs.Reading as read
 use Rattle.v_parser.specs.Reading.{Reader, gives, choose, mark_code, word_code, kind, next, next_in, among, mark_at, word_at, repeated, is_comma, more_at, listed_at}
 use Rattle.v_parser.specs.Exprs.{identifiers, casts, numbers, only, number_at, part_at, other_arm_at, index_at, name_at, group_at, concat_at, inner_parts_at, replicate_at, braces_at, signed_at, prefixed_at, leaf_at, operand_over_at, link_at, binary_at, arms_at, expr_over_at, nested_at, operand_at, expr_at, has_rank, ranks}
-use Rattle.v_parser.proofs.Exact.{Reads, Begins, reads_bind, reads_then, reads_yields, reads_choose, reads_same, Leads, leads_yields, leads_all, leads_bind, reads_led, reads_looser, reads_closed, begins_bind, begins_or, begins_among, none, apart, Parted, opens, silent, others, nothing, next_or, next_less, next_fewer}
+use Rattle.v_parser.proofs.Exact.{Reads, Begins, reads_bind, reads_then, reads_yields, reads_choose, reads_same, leads_yields, leads_all, leads_bind, reads_led, reads_looser, reads_closed, begins_bind, begins_or, begins_among, none, apart, Parted, opens, silent, others, nothing, next_or, next_less, next_fewer}
 use Rattle.v_parser.proofs.Single.{reads_mark, reads_ident, reads_sign, reads_prefix, reads_between}
 use Rattle.v_parser.proofs.Many.{after_these, Repeats, reads_many, behind_one, reads_more, reads_listed, list_goes, begins_after}
 use Rattle.v_parser.proofs.Ranks.{rank_table, rank_or}

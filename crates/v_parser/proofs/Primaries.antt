@@ -1,7 +1,6 @@
 -- The readers of expressions read the grammar's expressions: what holds no operator.
-use Rattle.std.proofs.Common.{◌≡◌, ℕ, Bool, true, ◌||◌, get_or, List, [], ◌∷◌, Some, refl, ap, ◌∙◌, inl, inr, arith}
+use Rattle.std.proofs.Common.{◌≡◌, ℕ, Bool, true, ◌||◌, get_or, List, [], ◌∷◌, Some, refl, ap, ◌∙◌, arith}
 use Rattle.std.specs.Prelude.{nat_le}
-use Rattle.v_syntax.specs.declared.token.Token.{Token}
 use Rattle.v_syntax.specs.declared.token.Mark.{Mark}
 use Rattle.v_syntax.specs.declared.token.Mark.TheVariants as m
 use Rattle.v_syntax.specs.declared.expr.Expr.{Expr}
@@ -10,12 +9,12 @@ use Rattle.v_syntax.specs.declared.expr.Placed.{Placed}
 use Rattle.v_syntax.specs.declared.expr.Range.{Range}
 use Rattle.v_syntax.specs.declared.expr.Spelling.TheVariants as s
 use Rattle.v_syntax.specs.declared.expr.UnaryOperator.{UnaryOperator}
-use Rattle.v_syntax.specs.Rule.{Rule, ◌>>=◌, ◌>>◌, ◌<|>◌, yields, mark, ident}
+use Rattle.v_syntax.specs.Rule.{Rule, ◌>>=◌, ◌>>◌, yields, mark, ident}
 use Rattle.v_syntax.specs.Grammar.{decimal, based, cast, prefix, unary_of, IsSized, IsNumber, placed, IsRange}
 use Rattle.v_parser.specs.Reading as read
 use Rattle.v_parser.specs.Reading.{Reader, gives, choose, mark_code, word_code, kind, next, next_in, among, mark_at, word_at, repeated, is_comma, more_at, listed_at}
 use Rattle.v_parser.specs.Exprs.{identifiers, decimals, baseds, casts, numbers, based_at, number_at, placed_at, opened_at, bound_at, range_at, ranks}
-use Rattle.v_parser.proofs.Exact.{Reads, Begins, reads_bind, reads_then, reads_behind, reads_yields, reads_choose, reads_same, leads_yields, leads_bind, reads_led, Leads, begins_bind, begins_here, begins_or, begins_among, none, opens, silent, others, nothing}
+use Rattle.v_parser.proofs.Exact.{Reads, Begins, reads_bind, reads_then, reads_behind, reads_yields, reads_choose, leads_yields, leads_bind, reads_led, Leads, begins_bind, begins_here, begins_or, begins_among, none, opens, silent, others, nothing}
 use Rattle.v_parser.proofs.Single.{reads_mark, reads_decimal, reads_based, reads_here, mark_here}
 
 -- ---- how single tokens begin

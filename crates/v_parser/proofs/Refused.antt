@@ -7,7 +7,7 @@ use Rattle.std.proofs.lemmas.Bool.{eqb-true}
 use Rattle.lz_base.specs.declared.rule.Rule.TheVariants.{E3}
 use Rattle.lz_base.specs.declared.fault.Fault.{Fault}
 use Rattle.v_syntax.specs.declared.token.Token.{Token}
-use Rattle.v_syntax.specs.Rule.{Rule, DerivesBy, IsViableBy}
+use Rattle.v_syntax.specs.Rule.{Rule, DerivesBy}
 use Rattle.v_parser.specs.declared.miss.Miss.{Miss}
 use Rattle.v_parser.specs.declared.miss.Miss.TheVariants as miss
 use Rattle.v_parser.specs.Reading.{Reader}

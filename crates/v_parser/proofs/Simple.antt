@@ -1,6 +1,5 @@
 -- The readers of statements read the grammar's statements.
-use Rattle.std.proofs.Common.{ℕ, Bool, List, [], ◌∷◌, refl, ap, ◌∙◌, subst, inl, inr, arith}
-use Rattle.v_syntax.specs.declared.token.Token.{Token}
+use Rattle.std.proofs.Common.{ℕ, Bool, List, [], ◌∷◌, refl, subst, arith}
 use Rattle.v_syntax.specs.declared.token.Mark.TheVariants as m
 use Rattle.v_syntax.specs.declared.token.Keyword.TheVariants as k
 use Rattle.v_syntax.specs.declared.stmt.AssignKind.TheVariants as a

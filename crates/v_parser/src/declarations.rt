@@ -1,12 +1,11 @@
-ghost use Rattle.std.specs.Prelude.{◌≡◌, ◌≤◌, ◌<◌, [], ◌∷◌, Ok, Err, IfOk, length, true};
-ghost use Rattle.v_parser.specs.Reading.{more_at, listed_at};
+ghost use Rattle.std.specs.Prelude.{◌≡◌, ◌≤◌, ◌<◌, Ok, Err, IfOk, length, true};
 ghost use Rattle.v_parser.specs.Modules.{flag_at, range_option_at, value_at, value_option_at, setting_at, declared_at, bare_at, variable_at};
 ghost use Rattle.v_parser.specs.Gives.{Gives};
 
 use crate::exprs::{placed, range};
+use crate::lists::Part;
 use crate::miss::{Miss, Read};
 use crate::tokens::{ident, mark, next_is, next_word, word};
-use lz_base::Items;
 use std::alloc::Global;
 use v_syntax::{Declared, INNER_LEVELS, Keyword, Mark, Placed, Range, Setting, Token, Variable};
 
@@ -103,88 +102,26 @@ fn variable<'t>(alloc: Global, tokens: &'t [Token]) -> Read<'t, Variable>
     }
 }
 
-// More settings behind commas.
-#[tactic(auto, using(crate::proofs::Loop::more_stop, crate::proofs::Loop::more_step))]
-fn more_settings<'t>(alloc: Global, tokens: &'t [Token], first: Setting) -> Read<'t, Items<Setting>>
-    ensures gives { Gives (λ x. (x.0, x.1.now)) result (more_at setting_at (first ∷ []) tokens.now) }
-    ensures shorter { IfOk result (λ x. length x.1.now ≤ length tokens.now) }
-{
-    let mut parts = Items::new(alloc);
-    parts.push(first)?;
-    let mut left = tokens;
-    while next_is(left, Mark::Comma) {
-        let (_, rest) = mark(left, Mark::Comma)?;
-        let (part, after) = setting(alloc, rest)?;
-        parts.push(part)?;
-        left = after;
+impl Part for Setting {
+    ghost reading = { setting_at };
+
+    fn read<'t>(alloc: Global, tokens: &'t [Token]) -> Read<'t, Setting> {
+        setting(alloc, tokens)
     }
-    Ok((parts, left))
 }
 
-pub(crate) fn settings_list<'t>(alloc: Global, tokens: &'t [Token]) -> Read<'t, Items<Setting>>
-    ensures gives { Gives (λ x. (x.0, x.1.now)) result (listed_at setting_at tokens.now) }
-    ensures shorter { IfOk result (λ x. length x.1.now < length tokens.now) }
-{
-    let (first, rest) = setting(alloc, tokens)?;
-    more_settings(alloc, rest, first)
-}
+impl Part for Declared {
+    ghost reading = { declared_at };
 
-// More names behind commas.
-#[tactic(auto, using(crate::proofs::Loop::more_stop, crate::proofs::Loop::more_step))]
-fn more_declared<'t>(
-    alloc: Global,
-    tokens: &'t [Token],
-    first: Declared,
-) -> Read<'t, Items<Declared>>
-    ensures gives { Gives (λ x. (x.0, x.1.now)) result (more_at declared_at (first ∷ []) tokens.now) }
-    ensures shorter { IfOk result (λ x. length x.1.now ≤ length tokens.now) }
-{
-    let mut parts = Items::new(alloc);
-    parts.push(first)?;
-    let mut left = tokens;
-    while next_is(left, Mark::Comma) {
-        let (_, rest) = mark(left, Mark::Comma)?;
-        let (part, after) = declared(alloc, rest)?;
-        parts.push(part)?;
-        left = after;
+    fn read<'t>(alloc: Global, tokens: &'t [Token]) -> Read<'t, Declared> {
+        declared(alloc, tokens)
     }
-    Ok((parts, left))
 }
 
-pub(crate) fn declared_list<'t>(alloc: Global, tokens: &'t [Token]) -> Read<'t, Items<Declared>>
-    ensures gives { Gives (λ x. (x.0, x.1.now)) result (listed_at declared_at tokens.now) }
-    ensures shorter { IfOk result (λ x. length x.1.now < length tokens.now) }
-{
-    let (first, rest) = declared(alloc, tokens)?;
-    more_declared(alloc, rest, first)
-}
+impl Part for Variable {
+    ghost reading = { variable_at };
 
-// More variables behind commas.
-#[tactic(auto, using(crate::proofs::Loop::more_stop, crate::proofs::Loop::more_step))]
-fn more_variables<'t>(
-    alloc: Global,
-    tokens: &'t [Token],
-    first: Variable,
-) -> Read<'t, Items<Variable>>
-    ensures gives { Gives (λ x. (x.0, x.1.now)) result (more_at variable_at (first ∷ []) tokens.now) }
-    ensures shorter { IfOk result (λ x. length x.1.now ≤ length tokens.now) }
-{
-    let mut parts = Items::new(alloc);
-    parts.push(first)?;
-    let mut left = tokens;
-    while next_is(left, Mark::Comma) {
-        let (_, rest) = mark(left, Mark::Comma)?;
-        let (part, after) = variable(alloc, rest)?;
-        parts.push(part)?;
-        left = after;
+    fn read<'t>(alloc: Global, tokens: &'t [Token]) -> Read<'t, Variable> {
+        variable(alloc, tokens)
     }
-    Ok((parts, left))
-}
-
-pub(crate) fn variable_list<'t>(alloc: Global, tokens: &'t [Token]) -> Read<'t, Items<Variable>>
-    ensures gives { Gives (λ x. (x.0, x.1.now)) result (listed_at variable_at tokens.now) }
-    ensures shorter { IfOk result (λ x. length x.1.now < length tokens.now) }
-{
-    let (first, rest) = variable(alloc, tokens)?;
-    more_variables(alloc, rest, first)
 }

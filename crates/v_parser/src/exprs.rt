@@ -6,8 +6,8 @@ ghost use Rattle.v_parser.specs.Gives.{Gives};
 
 use crate::miss::{Miss, Read};
 use crate::tokens::{
-    based, before, between, cast, decimal, here, ident, mark, next_has_rank, next_is,
-    next_is_based, next_is_cast, next_is_decimal, next_is_name, next_is_number, prefix,
+    based, before, beside, between, cast, decimal, here, ident, mark, next_has_rank, next_is,
+    next_is_based, next_is_cast, next_is_decimal, next_is_name, next_is_number, prefix, with_next,
 };
 use lz_base::{Boxed, Items, OutOfMemory};
 use std::alloc::Global;
@@ -128,7 +128,7 @@ fn select<'t>(
     ensures gives { Gives (λ x. (x.0, x.1.now)) result (before_at Mark.CloseBracket (Expr.Select name bracket index) tokens.now) }
     ensures shorter { IfOk result (λ x. length x.1.now < length tokens.now) }
 {
-    let (_, rest) = mark(tokens, Mark::CloseBracket)?;
+    let ((name, index), (_, rest)) = beside((name, index), mark(tokens, Mark::CloseBracket))?;
     Ok((select_of(alloc, name, bracket, index)?, rest))
 }
 
@@ -139,8 +139,8 @@ fn boxed_two(
 ) -> Result<(Boxed<Expr>, Boxed<Expr>), OutOfMemory>
     ensures { IfOk result (λ x. x ≡ (first, second)) }
 {
-    let first = Boxed::new(alloc, first)?;
-    Ok((first, Boxed::new(alloc, second)?))
+    let (second, first) = beside(second, Boxed::new(alloc, first))?;
+    Ok(beside(first, Boxed::new(alloc, second))?)
 }
 
 fn part_of(
@@ -173,8 +173,8 @@ fn conditional_of(
 ) -> Result<Expr, OutOfMemory>
     ensures { IfOk result (λ x. x ≡ Expr.Conditional condition one other) }
 {
-    let condition = Boxed::new(alloc, condition)?;
-    let (one, other) = boxed_two(alloc, one, other)?;
+    let ((one, other), condition) = beside((one, other), Boxed::new(alloc, condition))?;
+    let (condition, (one, other)) = beside(condition, boxed_two(alloc, one, other))?;
     Ok(Expr::Conditional(condition, one, other))
 }
 
@@ -188,7 +188,7 @@ fn replicate_of(
     ensures { IfOk result (λ x. x ≡ Expr.Replicate brace count.at count.expr inner_brace parts) }
 {
     let count_at = count.at;
-    let count = Boxed::new(alloc, count.expr)?;
+    let (parts, count) = beside(parts, Boxed::new(alloc, count.expr))?;
     Ok(Expr::Replicate {
         brace,
         count_at,
@@ -212,7 +212,7 @@ fn part<'t>(
     ensures gives { Gives (λ x. (x.0, x.1.now)) result (part_at (expr_at depth) name bracket msb tokens.now) }
     ensures shorter { IfOk result (λ x. length x.1.now < length tokens.now) }
 {
-    let (lsb, rest) = bound(alloc, tokens, depth)?;
+    let ((name, msb), (lsb, rest)) = beside((name, msb), bound(alloc, tokens, depth))?;
     Ok((part_of(alloc, name, bracket, msb, lsb)?, rest))
 }
 
@@ -258,7 +258,7 @@ fn group<'t>(alloc: Global, tokens: &'t [Token], depth: u32) -> Read<'t, Expr>
 
 // More expressions behind commas.
 #[cycle(parser)]
-#[tactic(auto, using(crate::proofs::Loop::repeated_stop, crate::proofs::Loop::repeated_step))]
+#[tactic(auto, using(crate::proofs::Loop::repeated_stop, crate::proofs::Loop::repeated_step, crate::proofs::Loop::behind_err_in))]
 pub(crate) fn more_exprs<'t>(
     alloc: Global,
     tokens: &'t [Token],
@@ -272,8 +272,8 @@ pub(crate) fn more_exprs<'t>(
     parts.push(first)?;
     let mut left = tokens;
     while next_is(left, Mark::Comma) {
-        let (part, after) = behind(alloc, left, depth, Mark::Comma)?;
-        parts.push(part)?;
+        let (more, after) = with_next(parts, behind(alloc, left, depth, Mark::Comma))?;
+        parts = more;
         left = after;
     }
     Ok((parts, left))
@@ -313,7 +313,7 @@ fn replicate<'t>(
     ensures gives { Gives (λ x. (x.0, x.1.now)) result (replicate_at (expr_at depth) brace count tokens.now) }
     ensures shorter { IfOk result (λ x. length x.1.now < length tokens.now) }
 {
-    let (inner, rest) = inner_parts(alloc, tokens, depth)?;
+    let (count, (inner, rest)) = beside(count, inner_parts(alloc, tokens, depth))?;
     let (inner_brace, parts) = inner;
     Ok((replicate_of(alloc, brace, count, inner_brace, parts)?, rest))
 }
@@ -442,13 +442,14 @@ fn chained(
     if others.is_empty() {
         Ok(first)
     } else {
-        Ok(Expr::Chain(Boxed::new(alloc, first)?, others))
+        let (others, first) = beside(others, Boxed::new(alloc, first))?;
+        Ok(Expr::Chain(first, others))
     }
 }
 
 // Level by level, so that an operand alone takes no frames for the levels around it.
 #[cycle(parser)]
-#[tactic(auto, using(crate::proofs::Depth::binary_one, crate::proofs::Depth::binary_step))]
+#[tactic(auto, using(crate::proofs::Depth::binary_one, crate::proofs::Depth::binary_step, crate::proofs::Depth::binary_fails))]
 fn binary<'t>(alloc: Global, tokens: &'t [Token], depth: u32, rank: u32) -> Read<'t, Expr>
     requires high { rank ≤ 10 }
     ensures gives { Gives (λ x. (x.0, x.1.now)) result (binary_at (operand_at depth) rank tokens.now) }
@@ -456,8 +457,8 @@ fn binary<'t>(alloc: Global, tokens: &'t [Token], depth: u32, rank: u32) -> Read
 {
     let (mut first, mut rest) = operand(alloc, tokens, depth)?;
     for level in 0..rank {
-        let (others, after) = links(alloc, rest, depth, level + 1)?;
-        first = chained(alloc, first, others)?;
+        let (one, (others, after)) = beside(first, links(alloc, rest, depth, level + 1))?;
+        first = chained(alloc, one, others)?;
         rest = after;
     }
     Ok((first, rest))
@@ -476,7 +477,10 @@ fn other_arm<'t>(
     ensures gives { Gives (λ x. (x.0, x.1.now)) result (other_arm_at (expr_at depth) condition one tokens.now) }
     ensures shorter { IfOk result (λ x. length x.1.now < length tokens.now) }
 {
-    let (other, rest) = behind(alloc, tokens, depth, Mark::Colon)?;
+    let ((condition, one), (other, rest)) = beside(
+        (condition, one),
+        behind(alloc, tokens, depth, Mark::Colon),
+    )?;
     Ok((conditional_of(alloc, condition, one, other)?, rest))
 }
 
@@ -486,7 +490,7 @@ fn arms<'t>(alloc: Global, tokens: &'t [Token], depth: u32, condition: Expr) -> 
     ensures gives { Gives (λ x. (x.0, x.1.now)) result (arms_at (expr_at depth) condition tokens.now) }
     ensures shorter { IfOk result (λ x. length x.1.now < length tokens.now) }
 {
-    let (one, rest) = behind(alloc, tokens, depth, Mark::Question)?;
+    let (condition, (one, rest)) = beside(condition, behind(alloc, tokens, depth, Mark::Question))?;
     other_arm(alloc, rest, depth, condition, one)
 }
 
@@ -510,7 +514,7 @@ pub(crate) fn range<'t>(alloc: Global, tokens: &'t [Token], depth: u32) -> Read<
     ensures shorter { IfOk result (λ x. length x.1.now < length tokens.now) }
 {
     let (inner, rest) = opened(alloc, tokens, depth)?;
+    let (inner, (lsb, rest)) = beside(inner, bound(alloc, rest, depth))?;
     let (bracket, msb) = inner;
-    let (lsb, rest) = bound(alloc, rest, depth)?;
     Ok((Range { bracket, msb, lsb }, rest))
 }

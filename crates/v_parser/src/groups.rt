@@ -7,7 +7,8 @@ ghost use Rattle.v_parser.specs.Gives.{Gives};
 use crate::declarations::{bare, declared, flag, range_option, setting};
 use crate::miss::{Miss, Read};
 use crate::tokens::{
-    mark, next_goes_on_parameters, next_goes_on_ports, next_is, next_is_name, next_word, word,
+    beside, mark, next_goes_on_parameters, next_goes_on_ports, next_is, next_is_name, next_word,
+    with_next, word,
 };
 use lz_base::Items;
 use std::alloc::Global;
@@ -58,12 +59,11 @@ fn parted_setting<'t>(alloc: Global, tokens: &'t [Token]) -> Read<'t, Setting>
     ensures shorter { IfOk result (λ x. length x.1.now < length tokens.now) }
 {
     let (setting, rest) = setting(alloc, tokens)?;
-    let rest = parameter_separator(rest)?;
-    Ok((setting, rest))
+    beside(setting, parameter_separator(rest))
 }
 
 // The parameters of a group behind the first one.
-#[tactic(auto, using(crate::proofs::Loop::repeated_stop, crate::proofs::Loop::repeated_step))]
+#[tactic(auto, using(crate::proofs::Loop::repeated_stop, crate::proofs::Loop::repeated_step, crate::proofs::Loop::repeated_err_in))]
 fn more_settings<'t>(alloc: Global, tokens: &'t [Token], first: Setting) -> Read<'t, Items<Setting>>
     ensures gives { Gives (λ x. (x.0, x.1.now)) result (repeated (λ x. among x identifiers) (parted_at parameter_words setting_at) (first ∷ []) tokens.now) }
     ensures shorter { IfOk result (λ x. length x.1.now ≤ length tokens.now) }
@@ -72,8 +72,8 @@ fn more_settings<'t>(alloc: Global, tokens: &'t [Token], first: Setting) -> Read
     settings.push(first)?;
     let mut left = tokens;
     while next_is_name(left) {
-        let (one, after) = parted_setting(alloc, left)?;
-        settings.push(one)?;
+        let (more, after) = with_next(settings, parted_setting(alloc, left))?;
+        settings = more;
         left = after;
     }
     Ok((settings, left))
@@ -96,7 +96,7 @@ pub(crate) fn parameter_group<'t>(alloc: Global, tokens: &'t [Token]) -> Read<'t
     let (_, rest) = word(tokens, Keyword::Parameter)?;
     let (signed, rest) = flag(rest, Keyword::Signed)?;
     let (range, rest) = range_option(alloc, rest)?;
-    let (settings, rest) = settings(alloc, rest)?;
+    let (range, (settings, rest)) = beside(range, settings(alloc, rest))?;
     Ok((
         ParameterGroup {
             signed,
@@ -161,12 +161,11 @@ fn parted_port<'t>(alloc: Global, tokens: &'t [Token], kind: PortKind) -> Read<'
     ensures shorter { IfOk result (λ x. length x.1.now < length tokens.now) }
 {
     let (port, rest) = port(alloc, tokens, kind)?;
-    let rest = port_separator(rest)?;
-    Ok((port, rest))
+    beside(port, port_separator(rest))
 }
 
 // The ports of a group behind the first one.
-#[tactic(auto, using(crate::proofs::Loop::repeated_stop, crate::proofs::Loop::repeated_step))]
+#[tactic(auto, using(crate::proofs::Loop::repeated_stop, crate::proofs::Loop::repeated_step, crate::proofs::Loop::repeated_err_in))]
 fn more_ports<'t>(
     alloc: Global,
     tokens: &'t [Token],
@@ -180,8 +179,8 @@ fn more_ports<'t>(
     ports.push(first)?;
     let mut left = tokens;
     while next_is_name(left) {
-        let (one, after) = parted_port(alloc, left, kind)?;
-        ports.push(one)?;
+        let (more, after) = with_next(ports, parted_port(alloc, left, kind))?;
+        ports = more;
         left = after;
     }
     Ok((ports, left))
@@ -204,7 +203,7 @@ pub(crate) fn port_group<'t>(alloc: Global, tokens: &'t [Token]) -> Read<'t, Por
     let (kind, rest) = port_kind(tokens)?;
     let (signed, rest) = flag(rest, Keyword::Signed)?;
     let (range, rest) = range_option(alloc, rest)?;
-    let (ports, rest) = ports(alloc, rest, kind)?;
+    let (range, (ports, rest)) = beside(range, ports(alloc, rest, kind))?;
     Ok((
         PortGroup {
             kind,

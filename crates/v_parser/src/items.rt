@@ -2,12 +2,15 @@ ghost use Rattle.std.specs.Prelude.{◌≡◌, ◌≤◌, ◌<◌, [], ◌∷◌
 ghost use Rattle.v_parser.specs.Modules.{settings_at, parameter_item_at, local_parameter_item_at, wire_item_at, reg_item_at, assign_item_at, any_event_at, posedge_at, inner_event_at, event_group_at, event_at, always_item_at, item_at};
 ghost use Rattle.v_parser.specs.Gives.{Gives};
 
-use crate::declarations::{declared_list, flag, range_option, settings_list, variable_list};
+use crate::declarations::{flag, range_option};
+use crate::lists::listed;
 use crate::miss::{Miss, Read};
 use crate::stmts::stmt;
-use crate::tokens::{before, ident, mark, next_is, next_word, word};
+use crate::tokens::{before, beside, ident, mark, next_is, next_word, word};
 use std::alloc::Global;
-use v_syntax::{Event, INNER_LEVELS, Item, Keyword, Mark, ParameterGroup, Token};
+use v_syntax::{
+    Declared, Event, INNER_LEVELS, Item, Keyword, Mark, ParameterGroup, Setting, Token, Variable,
+};
 
 #[tactic(auto, unfolding(crate::specs::Modules::settings_at))]
 fn settings<'t>(alloc: Global, tokens: &'t [Token]) -> Read<'t, ParameterGroup>
@@ -16,7 +19,7 @@ fn settings<'t>(alloc: Global, tokens: &'t [Token]) -> Read<'t, ParameterGroup>
 {
     let (signed, rest) = flag(tokens, Keyword::Signed)?;
     let (range, rest) = range_option(alloc, rest)?;
-    let (settings, rest) = settings_list(alloc, rest)?;
+    let (range, (settings, rest)) = beside(range, listed::<Setting>(alloc, rest))?;
     Ok((
         ParameterGroup {
             signed,
@@ -55,7 +58,7 @@ fn wire_item<'t>(alloc: Global, tokens: &'t [Token]) -> Read<'t, Item>
     let (_, rest) = word(tokens, Keyword::Wire)?;
     let (signed, rest) = flag(rest, Keyword::Signed)?;
     let (range, rest) = range_option(alloc, rest)?;
-    let (nets, rest) = declared_list(alloc, rest)?;
+    let (range, (nets, rest)) = beside(range, listed::<Declared>(alloc, rest))?;
     let wires = Item::Wires {
         signed,
         range,
@@ -72,7 +75,7 @@ fn reg_item<'t>(alloc: Global, tokens: &'t [Token]) -> Read<'t, Item>
     let (_, rest) = word(tokens, Keyword::Reg)?;
     let (signed, rest) = flag(rest, Keyword::Signed)?;
     let (range, rest) = range_option(alloc, rest)?;
-    let (variables, rest) = variable_list(alloc, rest)?;
+    let (range, (variables, rest)) = beside(range, listed::<Variable>(alloc, rest))?;
     let regs = Item::Regs {
         signed,
         range,
@@ -87,7 +90,7 @@ fn assign_item<'t>(alloc: Global, tokens: &'t [Token]) -> Read<'t, Item>
     ensures shorter { IfOk result (λ x. length x.1.now < length tokens.now) }
 {
     let (_, rest) = word(tokens, Keyword::Assign)?;
-    let (settings, rest) = settings_list(alloc, rest)?;
+    let (settings, rest) = listed::<Setting>(alloc, rest)?;
     before(Item::Assigns(settings), rest, Mark::Semicolon)
 }
 
@@ -153,7 +156,7 @@ fn always_item<'t>(alloc: Global, tokens: &'t [Token]) -> Read<'t, Item>
     let (_, rest) = word(tokens, Keyword::Always)?;
     let (_, rest) = mark(rest, Mark::At)?;
     let (event, rest) = event(alloc, rest)?;
-    let (body, rest) = stmt(alloc, rest, INNER_LEVELS)?;
+    let (event, (body, rest)) = beside(event, stmt(alloc, rest, INNER_LEVELS))?;
     Ok((Item::Always { event, body }, rest))
 }
 

@@ -10,6 +10,7 @@ mod declarations;
 mod exprs;
 mod groups;
 mod items;
+mod lists;
 mod miss;
 mod modules;
 mod operators;

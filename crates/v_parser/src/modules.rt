@@ -8,13 +8,14 @@ use crate::groups::{parameter_group, port_group};
 use crate::items::item;
 use crate::miss::{Miss, Read};
 use crate::tokens::{
-    before, before_word, ident, mark, next_is, next_is_not, next_is_port_word, next_word, word,
+    before, before_word, beside, ident, mark, next_is, next_is_not, next_is_port_word, next_word,
+    with_next, word,
 };
 use lz_base::Items;
 use std::alloc::Global;
 use v_syntax::{Ident, Item, Keyword, Mark, Module, ParameterGroup, PortGroup, Token};
 
-#[tactic(auto, unfolding(crate::specs::Modules::parameter_groups_at), using(crate::proofs::Loop::repeated_stop, crate::proofs::Loop::repeated_step))]
+#[tactic(auto, unfolding(crate::specs::Modules::parameter_groups_at), using(crate::proofs::Loop::repeated_stop, crate::proofs::Loop::repeated_step, crate::proofs::Loop::repeated_err_in))]
 fn more_parameter_groups<'t>(
     alloc: Global,
     tokens: &'t [Token],
@@ -27,8 +28,8 @@ fn more_parameter_groups<'t>(
     groups.push(first)?;
     let mut left = tokens;
     while next_word(left, Keyword::Parameter) {
-        let (group, after) = parameter_group(alloc, left)?;
-        groups.push(group)?;
+        let (more, after) = with_next(groups, parameter_group(alloc, left))?;
+        groups = more;
         left = after;
     }
     Ok((groups, left))
@@ -57,7 +58,7 @@ fn parameters<'t>(alloc: Global, tokens: &'t [Token]) -> Read<'t, Items<Paramete
     before(groups, rest, Mark::CloseParen)
 }
 
-#[tactic(auto, using(crate::proofs::Loop::repeated_stop, crate::proofs::Loop::repeated_step))]
+#[tactic(auto, using(crate::proofs::Loop::repeated_stop, crate::proofs::Loop::repeated_step, crate::proofs::Loop::repeated_err_in))]
 fn more_port_groups<'t>(
     alloc: Global,
     tokens: &'t [Token],
@@ -70,8 +71,8 @@ fn more_port_groups<'t>(
     groups.push(first)?;
     let mut left = tokens;
     while next_is_port_word(left) {
-        let (group, after) = port_group(alloc, left)?;
-        groups.push(group)?;
+        let (more, after) = with_next(groups, port_group(alloc, left))?;
+        groups = more;
         left = after;
     }
     Ok((groups, left))
@@ -112,7 +113,7 @@ fn ports<'t>(alloc: Global, tokens: &'t [Token]) -> Read<'t, Items<PortGroup>>
     port_list(alloc, rest)
 }
 
-#[tactic(auto, using(crate::proofs::Loop::repeated_stop, crate::proofs::Loop::repeated_step))]
+#[tactic(auto, using(crate::proofs::Loop::repeated_stop, crate::proofs::Loop::repeated_step, crate::proofs::Loop::repeated_err_in))]
 fn items<'t>(alloc: Global, tokens: &'t [Token]) -> Read<'t, Items<Item>>
     ensures gives { Gives (λ x. (x.0, x.1.now)) result (repeated not_endmodule item_at [] tokens.now) }
     ensures shorter { IfOk result (λ x. length x.1.now ≤ length tokens.now) }
@@ -120,8 +121,8 @@ fn items<'t>(alloc: Global, tokens: &'t [Token]) -> Read<'t, Items<Item>>
     let mut items = Items::new(alloc);
     let mut left = tokens;
     while next_is_not(left, Keyword::Endmodule) {
-        let (one, after) = item(alloc, left)?;
-        items.push(one)?;
+        let (more, after) = with_next(items, item(alloc, left))?;
+        items = more;
         left = after;
     }
     Ok((items, left))
@@ -151,7 +152,7 @@ fn enclosed_items<'t>(alloc: Global, tokens: &'t [Token]) -> Read<'t, Items<Item
 fn body<'t>(alloc: Global, tokens: &'t [Token], head: Head) -> Read<'t, Module>
     ensures gives { Gives (λ x. (x.0, x.1.now)) result (body_at head.name head.parameters head.ports tokens.now) }
 {
-    let (items, rest) = enclosed_items(alloc, tokens)?;
+    let (head, (items, rest)) = beside(head, enclosed_items(alloc, tokens))?;
     let Head {
         name,
         parameters,
@@ -175,7 +176,7 @@ pub(crate) fn module<'t>(alloc: Global, tokens: &'t [Token]) -> Read<'t, Module>
     let (_, rest) = word(tokens, Keyword::Module)?;
     let (name, rest) = ident(alloc, rest)?;
     let (parameters, rest) = parameters(alloc, rest)?;
-    let (ports, rest) = ports(alloc, rest)?;
+    let (parameters, (ports, rest)) = beside(parameters, ports(alloc, rest))?;
     body(
         alloc,
         rest,

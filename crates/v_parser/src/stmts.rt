@@ -7,7 +7,8 @@ use crate::exprs::{expr, more_exprs};
 use crate::miss::{Miss, Read};
 use crate::targets::target;
 use crate::tokens::{
-    before, before_word, mark, next_is, next_is_case, next_is_not, next_word, word,
+    before, before_word, beside, mark, next_is, next_is_case, next_is_not, next_word, with_next,
+    word,
 };
 use lz_base::{Boxed, Items};
 use std::alloc::Global;
@@ -40,7 +41,7 @@ fn assigned<'t>(
     ensures gives { Gives (λ x. (x.0, x.1.now)) result (assigned_at target kind tokens.now) }
     ensures shorter { IfOk result (λ x. length x.1.now < length tokens.now) }
 {
-    let (value, rest) = expr(alloc, tokens, INNER_LEVELS)?;
+    let (target, (value, rest)) = beside(target, expr(alloc, tokens, INNER_LEVELS))?;
     let assign = Stmt::Assign {
         target,
         kind,
@@ -56,7 +57,7 @@ fn assign<'t>(alloc: Global, tokens: &'t [Token]) -> Read<'t, Stmt>
 {
     let (target, rest) = target(alloc, tokens, INNER_LEVELS)?;
     let target = Boxed::new(alloc, target)?;
-    let (kind, rest) = assign_kind(rest)?;
+    let (target, (kind, rest)) = beside(target, assign_kind(rest))?;
     assigned(alloc, rest, target, kind)
 }
 
@@ -148,7 +149,7 @@ struct Taken {
 
 // The statements of a block.
 #[cycle(statements)]
-#[tactic(auto, using(crate::proofs::Loop::repeated_stop, crate::proofs::Loop::repeated_step))]
+#[tactic(auto, using(crate::proofs::Loop::repeated_stop, crate::proofs::Loop::repeated_step, crate::proofs::Loop::repeated_err_in))]
 fn body<'t>(alloc: Global, tokens: &'t [Token], depth: u32) -> Read<'t, Items<Stmt>>
     ensures gives { Gives (λ x. (x.0, x.1.now)) result (repeated not_end (stmt_at depth) [] tokens.now) }
     ensures shorter { IfOk result (λ x. length x.1.now ≤ length tokens.now) }
@@ -156,8 +157,8 @@ fn body<'t>(alloc: Global, tokens: &'t [Token], depth: u32) -> Read<'t, Items<St
     let mut body = Items::new(alloc);
     let mut left = tokens;
     while next_is_not(left, Keyword::End) {
-        let (one, after) = stmt(alloc, left, depth)?;
-        body.push(one)?;
+        let (more, after) = with_next(body, stmt(alloc, left, depth))?;
+        body = more;
         left = after;
     }
     Ok((body, left))
@@ -181,13 +182,13 @@ fn arm<'t>(alloc: Global, tokens: &'t [Token], depth: u32) -> Read<'t, Arm>
     ensures shorter { IfOk result (λ x. length x.1.now < length tokens.now) }
 {
     let (label, rest) = label(alloc, tokens)?;
-    let (body, rest) = stmt(alloc, rest, depth)?;
+    let (label, (body, rest)) = beside(label, stmt(alloc, rest, depth))?;
     Ok((Arm { label, body }, rest))
 }
 
 // The arms behind the first one.
 #[cycle(statements)]
-#[tactic(auto, using(crate::proofs::Loop::repeated_stop, crate::proofs::Loop::repeated_step))]
+#[tactic(auto, using(crate::proofs::Loop::repeated_stop, crate::proofs::Loop::repeated_step, crate::proofs::Loop::repeated_err_in))]
 fn more_arms<'t>(alloc: Global, tokens: &'t [Token], depth: u32, first: Arm) -> Read<'t, Items<Arm>>
     ensures gives { Gives (λ x. (x.0, x.1.now)) result (repeated not_endcase (arm_at (stmt_at depth)) (first ∷ []) tokens.now) }
     ensures shorter { IfOk result (λ x. length x.1.now ≤ length tokens.now) }
@@ -196,8 +197,8 @@ fn more_arms<'t>(alloc: Global, tokens: &'t [Token], depth: u32, first: Arm) -> 
     arms.push(first)?;
     let mut left = tokens;
     while next_is_not(left, Keyword::Endcase) {
-        let (one, after) = arm(alloc, left, depth)?;
-        arms.push(one)?;
+        let (more, after) = with_next(arms, arm(alloc, left, depth))?;
+        arms = more;
         left = after;
     }
     Ok((arms, left))
@@ -232,7 +233,7 @@ fn case<'t>(alloc: Global, tokens: &'t [Token], depth: u32) -> Read<'t, Stmt>
 {
     let (kind, rest) = case_kind(tokens)?;
     let (subject, rest) = condition(alloc, rest)?;
-    let (arms, rest) = case_body(alloc, rest, depth)?;
+    let (subject, (arms, rest)) = beside(subject, case_body(alloc, rest, depth))?;
     Ok((
         Stmt::Case {
             kind,
@@ -268,7 +269,7 @@ fn else_branch<'t>(alloc: Global, tokens: &'t [Token], depth: u32, taken: Taken)
     ensures gives { Gives (λ x. (x.0, x.1.now)) result (else_at (stmt_at depth) taken.condition taken.one tokens.now) }
     ensures shorter { IfOk result (λ x. length x.1.now < length tokens.now) }
 {
-    let (other, rest) = after_else(alloc, tokens, depth)?;
+    let (taken, (other, rest)) = beside(taken, after_else(alloc, tokens, depth))?;
     Ok((Stmt::IfElse(taken.condition, taken.one, other), rest))
 }
 
@@ -279,7 +280,7 @@ fn branches<'t>(alloc: Global, tokens: &'t [Token], depth: u32, condition: Expr)
     ensures gives { Gives (λ x. (x.0, x.1.now)) result (branches_at (stmt_at depth) condition tokens.now) }
     ensures shorter { IfOk result (λ x. length x.1.now < length tokens.now) }
 {
-    let (one, rest) = boxed_stmt(alloc, tokens, depth)?;
+    let (condition, (one, rest)) = beside(condition, boxed_stmt(alloc, tokens, depth))?;
     if next_word(rest, Keyword::Else) {
         else_branch(alloc, rest, depth, Taken { condition, one })
     } else {

@@ -5,7 +5,7 @@ ghost use Rattle.v_parser.specs.Gives.{Gives};
 
 use crate::exprs::{bound, opened};
 use crate::miss::{Miss, Read};
-use crate::tokens::{before, ident, mark, next_is};
+use crate::tokens::{before, beside, ident, mark, next_is};
 use lz_base::Items;
 use std::alloc::Global;
 use v_syntax::{INNER_LEVELS, Ident, Mark, Placed, Range, Target, Token};
@@ -21,7 +21,7 @@ fn target_part<'t>(
     ensures gives { Gives (λ x. (x.0, x.1.now)) result (target_part_at name bracket msb tokens.now) }
     ensures shorter { IfOk result (λ x. length x.1.now < length tokens.now) }
 {
-    let (lsb, rest) = bound(alloc, tokens, INNER_LEVELS)?;
+    let ((name, msb), (lsb, rest)) = beside((name, msb), bound(alloc, tokens, INNER_LEVELS))?;
     let range = Range { bracket, msb, lsb };
     Ok((Target::Part { name, range }, rest))
 }

@@ -3,11 +3,11 @@ ghost use Rattle.v_parser.specs.Reading.{mark_code, word_code, kind, next, next_
 ghost use Rattle.v_parser.specs.Exprs.{identifiers, decimals, baseds, casts, numbers, only, decimal_at, based_at, cast_at, prefix_at, between_at, has_rank};
 ghost use Rattle.v_parser.specs.Stmts.{cases};
 ghost use Rattle.v_parser.specs.Modules.{parameter_words, port_words, goes_on};
-ghost use Rattle.v_parser.specs.Gives.{Gives};
+ghost use Rattle.v_parser.specs.Gives.{Gives, Grown, beside_of};
 
 use crate::miss::{Miss, Read};
 use crate::operators::{binary_operator, rank, unary_operator};
-use lz_base::Name;
+use lz_base::{Items, Name};
 use std::alloc::Global;
 use v_syntax::{
     Based, BinaryOperator, Cast, Decimal, Ident, Keyword, Lexeme, Mark, Token, UnaryOperator,
@@ -161,6 +161,26 @@ pub(crate) fn before_word<'t, T: Drop>(
 {
     let (_, rest) = word(tokens, wanted)?;
     Ok((value, rest))
+}
+
+// A value beside what else is made. The caller's own `?` then has no value to drop.
+pub(crate) fn beside<T: Drop, U, E>(value: T, other: Result<U, E>) -> Result<(T, U), E>
+    ensures { result ≡ beside_of value other }
+{
+    match other {
+        Ok(made) => Ok((value, made)),
+        Err(e) => Err(e),
+    }
+}
+
+// A list, with what was read at its end.
+pub(crate) fn with_next<'t, T: Drop>(list: Items<T>, read: Read<'t, T>) -> Read<'t, Items<T>>
+    ensures { Grown list read.entry result }
+{
+    let mut list = list;
+    let (one, rest) = read?;
+    list.push(one)?;
+    Ok((list, rest))
 }
 
 // The place of the next token.

@@ -7,3 +7,4 @@ pub mod StmtLaws
 pub mod ItemLaws
 pub mod OpenLaws
 pub mod Depths
+pub mod FormLaws

@@ -32,6 +32,9 @@ use Rattle.v_typing.specs.Sound.{sound_target_step, is_sound_target, targets_sou
 use Rattle.v_statements.specs.declared.targets.MeasuredTarget.{MeasuredTarget}
 use Rattle.v_statements.specs.Made.{part_in, select_in, joined_in}
 use Rattle.v_statements.specs.Measured.{IsTarget, is_memory, joined_target}
+use Rattle.v_core.specs.Formed.{has, is_width, within_words}
+use Rattle.v_core.specs.FormedCores.{target_form, target_parts}
+use Rattle.v_statements.proofs.FormLaws.{is_word, joined_keeps}
 use Rattle.v_statements.proofs.Turns.{next_is, AreSame, all_same}
 use Rattle.v_statements.proofs.Sites.{bound_still, widths_still}
 
@@ -53,11 +56,13 @@ abbrev bits_of : Entry → ℕ → ℕ → TargetSense
 bits_of e low width = record { width = width; writes = λ v value. write_bits (place_of e.kind) low width value }
 
 pub part_made : (names : List Entry) (e : Entry) (made : TypedTarget) (n low low' width width' : ℕ) →
-    target_in made ≡ part_in n low width → entry_or (slice_get names n) ≡ e → low ≡ low' → width ≡ width' →
+    target_in made ≡ part_in n low width → entry_or (slice_get names n) ≡ e → low ≡ low' → width ≡ width' → is_width width ≡ true → has width (target_form made names) ≡ true →
     IsTarget names (record { width = width; target = made }) (bits_of e low' width')
-part_made names e made n low low' width width' is entry p q = record {
+part_made names e made n low low' width width' is entry p q word keeps = record {
   means = ap (λ (f : List Entry → TargetSense). f names) is ∙ (λ i. bits_of (entry i) (p i) (q i));
   measured = q;
+  word = word;
+  keeps = keeps;
 }
 
 selected_is : (kind : Kind) (e : Entry) (f : View → Option ℕ) →
@@ -79,9 +84,9 @@ selected_width kind e f = ap (λ (s : TargetSense). s.width) (sym (selected_is k
 
 pub select_made : (names : List Entry) (e : Entry) (made : TypedTarget) (n bits width : ℕ) (kind : Kind) (index : Open) (x : Typed) →
     target_in made ≡ select_in n bits index.width index.signed x → typed_value x ≡ (λ names. own (sense_in index names)) → entry_or (slice_get names n) ≡ e →
-    bits ≡ (if is_memory kind then width else 1) → kind ≡ e.kind → width ≡ e.width →
+    bits ≡ (if is_memory kind then width else 1) → kind ≡ e.kind → width ≡ e.width → is_width bits ≡ true → has bits (target_form made names) ≡ true →
     IsTarget names (record { width = bits; target = made }) (selected_target e.kind e (index_of (sense_in index names)))
-select_made names e made n bits width kind index x is p entry measure of_kind of_width =
+select_made names e made n bits width kind index x is p entry measure of_kind of_width word keeps =
     let same : bits ≡ (if is_memory e.kind then e.width else 1) = measure ∙ (λ i. if is_memory (of_kind i) then of_width i else 1) in
     record {
       means =
@@ -90,6 +95,8 @@ select_made names e made n bits width kind index x is p entry measure of_kind of
           ∙ (λ i. selected_bits (same i) (entry i) (index_of (sense_in index names)))
           ∙ selected_is e.kind e (index_of (sense_in index names));
       measured = same ∙ sym (selected_width e.kind e (index_of (sense_in index names)));
+      word = word;
+      keeps = keeps;
     }
 
 -- ---- targets of the source
@@ -179,6 +186,17 @@ narrow_parts names sites x brace parts more is p h =
     leb-true (targets_width names parts) 128 (second_of (nat_le 1 (targets_width names parts)) (nat_le (targets_width names parts) 128) between) in
     omega (arith, same, small)
 
+pub some_parts : (names : List Entry) (sites : List ℕ) (x : Target) (brace : ℕ) (parts more : List Target) → x ≡ t.Concat brace parts → more ≡ parts →
+    is_sound_target names x ≡ true → 1 ≤ parts_width (map (target_of names sites) more)
+some_parts names sites x brace parts more is p h =
+    let same : parts_width (map (target_of names sites) more) ≡ targets_width names parts =
+    ap (λ (ys : List Target). parts_width (map (target_of names sites) ys)) p ∙ widths_still names sites parts in
+    let between : (nat_le 1 (targets_width names parts) && nat_le (targets_width names parts) 128) ≡ true =
+    second_of (targets_sound names parts) (is_between_1_and_128 (Some (targets_width names parts))) (concat_sound names x brace parts is h) in
+    let one : 1 ≤ targets_width names parts =
+    leb-true 1 (targets_width names parts) (first_of (nat_le 1 (targets_width names parts)) (nat_le (targets_width names parts) 128) between) in
+    omega (arith, same, one)
+
 -- ---- bounds
 
 pub record AreBounds (e : Entry) (msb lsb : ℕ) : Type 0 where
@@ -220,12 +238,16 @@ more_bits names sites parts i x width more wider whole h is p q before =
 pub joined_made : (names : List Entry) (sites : List ℕ) (parts : List Target) (i width : ℕ) (typed : List TypedTarget) (made : TypedTarget) → length parts ≤ i →
     target_in made ≡ joined_in typed → AreSame (λ (t : TypedTarget). target_in t names) (target_of names sites) typed parts i →
     width + parts_width (map (target_of names sites) (drop i parts)) ≡ parts_width (map (target_of names sites) parts) →
+    target_form made ≡ (λ names. within_words (target_parts (map target_form typed) names)) → has width (target_parts (map target_form typed) names) ≡ true →
+    1 ≤ parts_width (map (target_of names sites) parts) → parts_width (map (target_of names sites) parts) ≤ 128 →
     IsTarget names (record { width = width; target = made }) (joined_target (map (target_of names sites) parts))
-joined_made names sites parts i width typed made h is same bits =
+joined_made names sites parts i width typed made h is same bits form before some top =
     let none : parts_width (map (target_of names sites) (drop i parts)) ≡ 0 = ap (λ (r : List Target). parts_width (map (target_of names sites) r)) (drop_all i parts h) in
     record {
       means =
           ap (λ (f : List Entry → TargetSense). f names) is
           ∙ ap joined_target (all_same (λ (t : TypedTarget). target_in t names) (target_of names sites) typed parts i h same);
       measured = omega (arith, none, bits);
+      word = is_word width (omega (arith, none, bits, some)) (omega (arith, none, bits, top));
+      keeps = joined_keeps names typed made width _ form (omega (arith, none, bits)) some top before;
     }

@@ -2,3 +2,4 @@ pub mod Sound
 pub mod Made
 pub mod Measured
 pub mod Cases
+pub mod Forms

@@ -1,7 +1,10 @@
-ghost use Rattle.std.specs.Prelude.{◌≡◌, ◌≤◌, ◌&&◌, max, map, IfOk, List};
+ghost use Rattle.std.specs.Prelude.{◌≡◌, ◌≤◌, ◌&&◌, max, map, true, IfOk, List};
 ghost use Rattle.v_meaning.specs.declared.names.Entry.{Entry};
 ghost use Rattle.v_core.specs.Bodies.{sense_in};
 ghost use Rattle.v_core.specs.Statements.{acts_in};
+ghost use Rattle.v_core.specs.FormedCores.{is_formed_stmt};
+ghost use Rattle.v_core.specs.OpenForms.{OpenFormed};
+ghost use Rattle.v_statements.specs.Forms.{ArmFormed, Each, arm_form, open_arm_form};
 ghost use Rattle.v_statements.specs.Cases.{arm_at, case_of, comparison_among, comparison_in, open_arm, open_item, open_items, comparison_behind, senses_of, typed_arm};
 
 use crate::items::{Common, OpenItem, OpenLabel, fixed_label};
@@ -66,7 +69,8 @@ fn common(subject: &Open, arms: &[OpenArm]) -> Common
 // An arm whose items are compared at the common width and sign. `OutOfMemory` is the only other answer, here and below.
 fn fixed_arm(alloc: Global, arm: OpenArm, by: Common) -> Result<TypedArm, OutOfMemory>
     requires within { by.width ≤ 128 }
-    ensures { IfOk result (λ t. (names : List Entry) → typed_arm names t ≡ arm_at (comparison_in by) (open_arm names arm)) }
+    ensures value { IfOk result (λ t. (names : List Entry) → typed_arm names t ≡ arm_at (comparison_in by) (open_arm names arm)) }
+    ensures form { IfOk result (λ t. (names : List Entry) → arm_form names t ≡ open_arm_form names by arm) }
 {
     let label = fixed_label(alloc, arm.label, by)?;
     Ok(TypedArm {
@@ -82,7 +86,8 @@ fn fixed_arms(
     by: Common,
 ) -> Result<Items<TypedArm>, OutOfMemory>
     requires within { by.width ≤ 128 }
-    ensures { IfOk result (λ t. (names : List Entry) → map (typed_arm names) t ≡ map (arm_at (comparison_in by)) (map (open_arm names) arms)) }
+    ensures value { IfOk result (λ t. (names : List Entry) → map (typed_arm names) t ≡ map (arm_at (comparison_in by)) (map (open_arm names) arms)) }
+    ensures form { IfOk result (λ t. (names : List Entry) → map (arm_form names) t ≡ map (open_arm_form names by) arms) }
 {
     let mut left = arms;
     let mut fixed = Vec::new(alloc);
@@ -100,7 +105,8 @@ pub fn compared(
     subject: Open,
     arms: Items<OpenArm>,
 ) -> Result<TypedStmt, OutOfMemory>
-    ensures { IfOk result (λ t. (names : List Entry) → acts_in t names ≡ case_of (sense_in subject names) (map (open_arm names) arms)) }
+    ensures value { IfOk result (λ t. (names : List Entry) → acts_in t names ≡ case_of (sense_in subject names) (map (open_arm names) arms)) }
+    ensures form { IfOk result (λ t. (names : List Entry) → OpenFormed subject names → Each (ArmFormed names) arms → is_formed_stmt t names ≡ true) }
 {
     let by = common(&subject, arms.as_slice());
     // No sound expression has more bits.

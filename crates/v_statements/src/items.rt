@@ -7,6 +7,7 @@ ghost use Rattle.v_meaning.specs.Statements.{ignored, label_items};
 ghost use Rattle.v_meaning.specs.declared.names.Entry.{Entry};
 ghost use Rattle.v_core.specs.Statements.{items_in};
 ghost use Rattle.v_typing.specs.Sound.{all_sound};
+ghost use Rattle.v_statements.specs.Forms.{Each, ItemFormed, item_form, open_item_form};
 ghost use Rattle.v_statements.specs.Cases.{comparison_in, is_default, is_open_default, is_right, is_typed_default, item_at, open_item, open_items, source_item, typed_item, z_at, z_word};
 
 use lz_base::{Items, OutOfMemory, Word};
@@ -81,7 +82,8 @@ fn opened_item(
     item: &Expr,
 ) -> Result<OpenItem, OutOfMemory>
     requires sound { is_sound names.now item.now ≡ true }
-    ensures { IfOk result (λ o. open_item names.now o ≡ source_item names.now sites.now kind item.now) }
+    ensures value { IfOk result (λ o. open_item names.now o ≡ source_item names.now sites.now kind item.now) }
+    ensures form { IfOk result (λ o. ItemFormed names.now o) }
 {
     let z_bits = z_bits(kind, item);
     let value = opened(alloc, names, sites, item)?;
@@ -97,7 +99,8 @@ fn opened_items(
     items: &[Expr],
 ) -> Result<Items<OpenItem>, OutOfMemory>
     requires sound { all_sound names.now items.now ≡ true }
-    ensures { IfOk result (λ o. map (open_item names.now) o ≡ map (source_item names.now sites.now kind) items.now) }
+    ensures value { IfOk result (λ o. map (open_item names.now) o ≡ map (source_item names.now sites.now kind) items.now) }
+    ensures form { IfOk result (λ o. Each (ItemFormed names.now) o) }
 {
     let mut all = Items::new(alloc);
     for item in items {
@@ -118,6 +121,7 @@ pub fn opened_label(
     requires sound { all_sound names.now (label_items label.now) ≡ true }
     ensures items { IfOk result (λ o. map (open_item names.now) (open_items o) ≡ map (source_item names.now sites.now kind) (label_items label.now)) }
     ensures default { IfOk result (λ o. is_open_default o ≡ is_default label.now) }
+    ensures form { IfOk result (λ o. Each (ItemFormed names.now) (open_items o)) }
 {
     match label {
         Label::Items(items) => {
@@ -143,7 +147,8 @@ fn ignored(z_bits: Option<Word>, by: Common) -> u128
 // An item at the common width and sign.
 fn fixed_item(alloc: Global, item: OpenItem, by: Common) -> Result<TypedItem, OutOfMemory>
     requires within { by.width ≤ 128 }
-    ensures { IfOk result (λ t. (names : List Entry) → typed_item names t ≡ item_at (comparison_in by) (open_item names item)) }
+    ensures value { IfOk result (λ t. (names : List Entry) → typed_item names t ≡ item_at (comparison_in by) (open_item names item)) }
+    ensures form { IfOk result (λ t. (names : List Entry) → item_form names t ≡ open_item_form names by item) }
 {
     let ignored = ignored(item.z_bits, by);
     let value = fix(alloc, item.value.body, by.width, by.signed)?;
@@ -157,7 +162,8 @@ fn fixed_items(
     by: Common,
 ) -> Result<Items<TypedItem>, OutOfMemory>
     requires within { by.width ≤ 128 }
-    ensures { IfOk result (λ t. (names : List Entry) → map (typed_item names) t ≡ map (item_at (comparison_in by)) (map (open_item names) items)) }
+    ensures value { IfOk result (λ t. (names : List Entry) → map (typed_item names) t ≡ map (item_at (comparison_in by)) (map (open_item names) items)) }
+    ensures form { IfOk result (λ t. (names : List Entry) → map (item_form names) t ≡ map (open_item_form names by) items) }
 {
     let mut left = items;
     let mut fixed = Vec::new(alloc);
@@ -174,6 +180,7 @@ pub fn fixed_label(alloc: Global, label: OpenLabel, by: Common) -> Result<TypedL
     requires within { by.width ≤ 128 }
     ensures items { IfOk result (λ t. (names : List Entry) → map (typed_item names) (items_in t) ≡ map (item_at (comparison_in by)) (map (open_item names) (open_items label))) }
     ensures default { IfOk result (λ t. is_typed_default t ≡ is_open_default label) }
+    ensures form { IfOk result (λ t. (names : List Entry) → map (item_form names) (items_in t) ≡ map (open_item_form names by) (open_items label)) }
 {
     match label {
         OpenLabel::Items(items) => {

@@ -1,10 +1,15 @@
-ghost use Rattle.std.specs.Prelude.{◌≡◌, ◌==◌, if◌then◌else◌, map, IfOk};
+ghost use Rattle.std.specs.Prelude.{◌≡◌, ◌+◌, ◌==◌, ◌&&◌, if◌then◌else◌, nat_le, true, map, IfOk};
+ghost use Rattle.std.specs.List.{list_all};
 ghost use Rattle.v_meaning.specs.Acts.{End, Branch, sequence};
 ghost use Rattle.v_meaning.specs.Statements.{assign_acts};
-ghost use Rattle.v_core.specs.Values.{typed_value};
+ghost use Rattle.v_core.specs.declared.statement.TypedStmt.{TypedStmt};
+ghost use Rattle.v_core.specs.Values.{entry_at, typed_value};
+ghost use Rattle.v_core.specs.Formed.{formed, has, is_width, selected_width, within_words};
+ghost use Rattle.v_core.specs.FormedCores.{is_formed_stmt, target_form, target_parts};
 ghost use Rattle.v_core.specs.Statements.{target_in, acts_in, writes_in};
 ghost use Rattle.v_statements.specs.Made.{part_in, select_in, joined_in, body_acts};
 ghost use Rattle.v_statements.specs.Cases.{chosen_acts, typed_arm};
+ghost use Rattle.v_statements.specs.Forms.{is_formed_arm};
 
 use lz_base::{Boxed, Items, OutOfMemory};
 use std::alloc::Global;
@@ -13,7 +18,8 @@ use v_syntax::AssignKind;
 
 /// So many bits of a variable, from the number of the lowest one up (IEEE Std 1364-2005, 5.2.1).
 pub fn part(name: u32, at: u64, low: u32, width: u32) -> TypedTarget
-    ensures { target_in result ≡ part_in name low width }
+    ensures value { target_in result ≡ part_in name low width }
+    ensures form { target_form result ≡ (λ names. record { width = width; kept = is_width width && nat_le (low + width) (entry_at names name).width }) }
 {
     TypedTarget::Part {
         name,
@@ -25,7 +31,8 @@ pub fn part(name: u32, at: u64, low: u32, width: u32) -> TypedTarget
 
 /// A bit of a variable or a word of a memory, of so many bits, at an index of this width and sign (5.2.1 and 5.2.2).
 pub fn select(name: u32, at: u64, bits: u32, width: u32, signed: bool, index: Typed) -> TypedTarget
-    ensures { target_in result ≡ select_in name bits width signed index }
+    ensures value { target_in result ≡ select_in name bits width signed index }
+    ensures form { target_form result ≡ (λ names. record { width = bits; kept = is_width (entry_at names name).width && bits == selected_width (entry_at names name).kind (entry_at names name).width && has width (formed index names) }) }
 {
     TypedTarget::Select {
         name,
@@ -38,24 +45,27 @@ pub fn select(name: u32, at: u64, bits: u32, width: u32, signed: bool, index: Ty
 }
 
 /// Parts side by side; the first is the most significant (9.2).
-#[tactic(auto, using(crate::proofs::MakingLaws::target_concat))]
+#[tactic(auto, using(crate::proofs::MakingLaws::target_concat, crate::proofs::FormLaws::form_concat))]
 pub fn joined(parts: Items<TypedTarget>) -> TypedTarget
-    ensures { target_in result ≡ joined_in parts }
+    ensures value { target_in result ≡ joined_in parts }
+    ensures form { target_form result ≡ (λ names. within_words (target_parts (map target_form parts) names)) }
 {
     TypedTarget::Concat(parts)
 }
 
 /// The null statement (9.1).
 pub fn nothing() -> TypedStmt
-    ensures { acts_in result ≡ (λ names. End) }
+    ensures value { acts_in result ≡ (λ names. End) }
+    ensures form { is_formed_stmt result ≡ (λ names. true) }
 {
     TypedStmt::Null
 }
 
 /// Statements one after another (9.8.1).
-#[tactic(auto, using(crate::proofs::MakingLaws::stmt_block))]
+#[tactic(auto, using(crate::proofs::MakingLaws::stmt_block, crate::proofs::FormLaws::form_block))]
 pub fn in_turn(body: Items<TypedStmt>) -> TypedStmt
-    ensures { acts_in result ≡ (λ names. sequence (body_acts body names)) }
+    ensures value { acts_in result ≡ (λ names. sequence (body_acts body names)) }
+    ensures form { is_formed_stmt result ≡ (λ names. list_all (λ (t : TypedStmt). is_formed_stmt t names) body) }
 {
     TypedStmt::Block(body)
 }
@@ -67,7 +77,8 @@ pub fn branched(
     one: TypedStmt,
     other: TypedStmt,
 ) -> Result<TypedStmt, OutOfMemory>
-    ensures { IfOk result (λ t. acts_in t ≡ (λ names. Branch (λ v. if typed_value condition names v == 0 then acts_in other names else acts_in one names) End)) }
+    ensures value { IfOk result (λ t. acts_in t ≡ (λ names. Branch (λ v. if typed_value condition names v == 0 then acts_in other names else acts_in one names) End)) }
+    ensures form { IfOk result (λ t. is_formed_stmt t ≡ (λ names. (formed condition names).kept && (is_formed_stmt one names && is_formed_stmt other names))) }
 {
     let one = Boxed::new(alloc, one)?;
     let other = Boxed::new(alloc, other)?;
@@ -75,9 +86,10 @@ pub fn branched(
 }
 
 /// The first arm with an item that the subject meets; else the default, else nothing (9.5).
-#[tactic(auto, using(crate::proofs::MakingLaws::stmt_case))]
+#[tactic(auto, using(crate::proofs::MakingLaws::stmt_case, crate::proofs::FormLaws::form_case))]
 pub fn chosen(subject: Typed, arms: Items<TypedArm>) -> TypedStmt
-    ensures { acts_in result ≡ (λ names. chosen_acts (typed_value subject names) (map (typed_arm names) arms)) }
+    ensures value { acts_in result ≡ (λ names. chosen_acts (typed_value subject names) (map (typed_arm names) arms)) }
+    ensures form { is_formed_stmt result ≡ (λ names. (formed subject names).kept && list_all (is_formed_arm (formed subject names).width names) arms) }
 {
     TypedStmt::Case { subject, arms }
 }
@@ -89,7 +101,8 @@ pub fn assigned(
     kind: AssignKind,
     value: Typed,
 ) -> Result<TypedStmt, OutOfMemory>
-    ensures { IfOk result (λ t. acts_in t ≡ (λ names. assign_acts kind (λ v. writes_in (target_in target names) (typed_value value names v) v))) }
+    ensures value { IfOk result (λ t. acts_in t ≡ (λ names. assign_acts kind (λ v. writes_in (target_in target names) (typed_value value names v) v))) }
+    ensures form { IfOk result (λ t. is_formed_stmt t ≡ (λ names. (target_form target names).kept && (formed value names).kept)) }
 {
     let target = Boxed::new(alloc, target)?;
     Ok(TypedStmt::Assign {

@@ -6,7 +6,11 @@ ghost use Rattle.v_meaning.specs.Statements.{acts_of, assign_acts, writes_of};
 ghost use Rattle.v_meaning.specs.Targets.{target_of};
 ghost use Rattle.v_meaning.specs.Proper.{is_sound};
 ghost use Rattle.v_core.specs.Values.{typed_value};
+ghost use Rattle.v_core.specs.declared.statement.TypedStmt.{TypedStmt};
 ghost use Rattle.v_core.specs.Statements.{acts_in};
+ghost use Rattle.v_core.specs.Formed.{formed};
+ghost use Rattle.v_core.specs.FormedCores.{is_formed_stmt};
+ghost use Rattle.v_statements.specs.Forms.{ArmFormed, Each};
 ghost use Rattle.v_typing.specs.Sound.{is_sound_stmt, is_sound_target};
 ghost use Rattle.v_statements.specs.Sound.{is_sound_arm};
 ghost use Rattle.v_statements.specs.Made.{body_acts};
@@ -26,7 +30,8 @@ use v_typing::{opened, own};
 // A condition, which determines itself (IEEE Std 1364-2005, 9.4). `OutOfMemory` is the only other answer, here and below.
 fn condition(alloc: Global, names: &Names, sites: &Sites, x: &Expr) -> Result<Typed, OutOfMemory>
     requires sound { is_sound names.now x.now ≡ true }
-    ensures { IfOk result (λ t. typed_value t names.now ≡ own (sense_of names.now sites.now x.now)) }
+    ensures value { IfOk result (λ t. typed_value t names.now ≡ own (sense_of names.now sites.now x.now)) }
+    ensures form { IfOk result (λ t. (formed t names.now).kept ≡ true) }
 {
     let x = opened(alloc, names, sites, x)?;
     let t = own(alloc, x)?;
@@ -44,7 +49,8 @@ fn assignment(
 ) -> Result<TypedStmt, OutOfMemory>
     requires target { is_sound_target names.now target.now ≡ true }
     requires value { is_sound names.now value.now ≡ true }
-    ensures { IfOk result (λ t. acts_in t names.now ≡ assign_acts kind (writes_of (target_of names.now sites.now target.now) (sense_of names.now sites.now value.now))) }
+    ensures value { IfOk result (λ t. acts_in t names.now ≡ assign_acts kind (writes_of (target_of names.now sites.now target.now) (sense_of names.now sites.now value.now))) }
+    ensures form { IfOk result (λ t. is_formed_stmt t names.now ≡ true) }
 {
     let target = measured(alloc, names, sites, target)?;
     let value = opened(alloc, names, sites, value)?;
@@ -65,7 +71,8 @@ pub fn statement(
     s: &Stmt,
 ) -> Result<TypedStmt, OutOfMemory>
     requires sound { is_sound_stmt names.now s.now ≡ true }
-    ensures { IfOk result (λ t. acts_in t names.now ≡ acts_of names.now sites.now s.now) }
+    ensures value { IfOk result (λ t. acts_in t names.now ≡ acts_of names.now sites.now s.now) }
+    ensures form { IfOk result (λ t. is_formed_stmt t names.now ≡ true) }
 {
     match s {
         Stmt::Null => Ok(nothing()),
@@ -116,7 +123,8 @@ fn each(
     body: &[Stmt],
 ) -> Result<Items<TypedStmt>, OutOfMemory>
     requires sound { list_all (is_sound_stmt names.now) body.now ≡ true }
-    ensures { IfOk result (λ t. body_acts t names.now ≡ map (acts_of names.now sites.now) body.now) }
+    ensures value { IfOk result (λ t. body_acts t names.now ≡ map (acts_of names.now sites.now) body.now) }
+    ensures form { IfOk result (λ t. list_all (λ (x : TypedStmt). is_formed_stmt x names.now) t ≡ true) }
 {
     let mut all = Items::new(alloc);
     for s in body {
@@ -136,7 +144,8 @@ fn opened_arms(
     arms: &[Arm],
 ) -> Result<Items<OpenArm>, OutOfMemory>
     requires sound { list_all (is_sound_arm names.now) arms.now ≡ true }
-    ensures { IfOk result (λ o. map (open_arm names.now) o ≡ map (source_arm names.now sites.now kind) arms.now) }
+    ensures value { IfOk result (λ o. map (open_arm names.now) o ≡ map (source_arm names.now sites.now kind) arms.now) }
+    ensures form { IfOk result (λ o. Each (ArmFormed names.now) o) }
 {
     let mut all = Items::new(alloc);
     for arm in arms {

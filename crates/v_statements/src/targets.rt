@@ -4,6 +4,7 @@ ghost use Rattle.v_meaning.specs.Names.{entry_of, or_zero};
 ghost use Rattle.v_meaning.specs.Proper.{is_part, proper_value};
 ghost use Rattle.v_meaning.specs.Targets.{whole_target, selected_target, part_target, target_of, parts_width};
 ghost use Rattle.v_core.specs.Bodies.{sense_in};
+ghost use Rattle.v_core.specs.OpenForms.{OpenFormed};
 ghost use Rattle.v_typing.specs.Sound.{is_sound_target, targets_sound};
 ghost use Rattle.v_statements.specs.Measured.{IsTarget, is_memory, joined_target};
 
@@ -51,6 +52,7 @@ fn selected(
     ident: &Ident,
     index: Open,
 ) -> Result<MeasuredTarget, OutOfMemory>
+    requires index { OpenFormed index names.now }
     ensures { IfOk result (λ t. IsTarget names.now t (selected_target (entry_of names.now ident.now.name).kind (entry_of names.now ident.now.name) (index_of (sense_in index names.now)))) }
 {
     let known = names.known(&ident.name);
@@ -138,6 +140,7 @@ fn joined(
     parts: &[Target],
 ) -> Result<MeasuredTarget, OutOfMemory>
     requires sound { targets_sound names.now parts.now ≡ true }
+    requires some { 1 ≤ parts_width (map (target_of names.now sites.now) parts.now) }
     requires narrow { parts_width (map (target_of names.now sites.now) parts.now) ≤ 128 }
     ensures { IfOk result (λ t. IsTarget names.now t (joined_target (map (target_of names.now sites.now) parts.now))) }
 {

@@ -4,3 +4,5 @@ pub mod Outputs
 pub mod SoundExprs
 pub mod SoundItems
 pub mod TypedDesigns
+pub mod Formed
+pub mod CopiedNames

@@ -1,4 +1,4 @@
-ghost use Rattle.std.specs.Prelude.{◌≡◌, ◌++◌, ◌%◌, ◌^◌, true, map, flat_map, OnOk, IfOk, max};
+ghost use Rattle.std.specs.Prelude.{◌≡◌, ◌≤◌, ◌++◌, ◌%◌, ◌^◌, true, map, flat_map, OnOk, IfOk, max};
 ghost use Rattle.std.specs.List.{list_all};
 ghost use Rattle.v_syntax.specs.declared.module.Declared.{Declared};
 ghost use Rattle.v_syntax.specs.declared.module.Setting.{Setting};
@@ -8,6 +8,8 @@ ghost use Rattle.v_meaning.specs.Proper.{is_sound};
 ghost use Rattle.v_meaning.specs.Modules.{net_assign, wire_assign};
 ghost use Rattle.v_core.specs.Values.{typed_value};
 ghost use Rattle.v_core.specs.Cores.{assign_in};
+ghost use Rattle.v_core.specs.Formed.{formed};
+ghost use Rattle.v_typed.specs.Forms.{are_formed_assigns};
 ghost use Rattle.v_typing.specs.Sound.{is_sound_value};
 
 use lz_base::{Items, OutOfMemory};
@@ -28,7 +30,8 @@ fn right_side(
     x: &Expr,
 ) -> Result<Typed, OutOfMemory>
     requires sound { is_sound names.now x.now ≡ true }
-    ensures { IfOk result (λ t. (λ v. typed_value t names.now v % 2 ^ width) ≡ assigned width (sense_of names.now sites.now x.now)) }
+    ensures value { IfOk result (λ t. (λ v. typed_value t names.now v % 2 ^ width) ≡ assigned width (sense_of names.now sites.now x.now)) }
+    ensures form { IfOk result (λ t. width ≤ 128 → (formed t names.now).kept ≡ true) }
 {
     let side = opened(alloc, names, sites, x)?;
     fix(alloc, side.body, width.max(side.width), side.signed)
@@ -44,7 +47,8 @@ fn add_assign(
     assigns: &mut Items<TypedAssign>,
 ) -> Result<(), OutOfMemory>
     requires sound { is_sound names.now value.now ≡ true }
-    ensures { OnOk result (map (assign_in names.now) assigns.new ≡ map (assign_in names.now) assigns.old ++ net_assign names.now sites.now name.now value.now) }
+    ensures value { OnOk result (map (assign_in names.now) assigns.new ≡ map (assign_in names.now) assigns.old ++ net_assign names.now sites.now name.now value.now) }
+    ensures form { OnOk result (are_formed_assigns names.now assigns.new ≡ are_formed_assigns names.now assigns.old) }
 {
     let known = names.known(&name.name);
     match known.kind {
@@ -68,7 +72,8 @@ fn add_value(
     assigns: &mut Items<TypedAssign>,
 ) -> Result<(), OutOfMemory>
     requires sound { is_sound_value names.now value.now ≡ true }
-    ensures { OnOk result (map (assign_in names.now) assigns.new ≡ map (assign_in names.now) assigns.old ++ wire_assign names.now sites.now name.now value.now) }
+    ensures value { OnOk result (map (assign_in names.now) assigns.new ≡ map (assign_in names.now) assigns.old ++ wire_assign names.now sites.now name.now value.now) }
+    ensures form { OnOk result (are_formed_assigns names.now assigns.new ≡ are_formed_assigns names.now assigns.old) }
 {
     match value {
         None => Ok(()),
@@ -85,7 +90,8 @@ pub(crate) fn add_wires(
     assigns: &mut Items<TypedAssign>,
 ) -> Result<(), OutOfMemory>
     requires sound { list_all (λ (d : Declared). is_sound_value names.now d.value) wires.now ≡ true }
-    ensures { OnOk result (map (assign_in names.now) assigns.new ≡ map (assign_in names.now) assigns.old ++ flat_map (λ (d : Declared). wire_assign names.now sites.now d.name d.value) wires.now) }
+    ensures value { OnOk result (map (assign_in names.now) assigns.new ≡ map (assign_in names.now) assigns.old ++ flat_map (λ (d : Declared). wire_assign names.now sites.now d.name d.value) wires.now) }
+    ensures form { OnOk result (are_formed_assigns names.now assigns.new ≡ are_formed_assigns names.now assigns.old) }
 {
     for wire in wires {
         add_value(alloc, names, sites, &wire.name, &wire.value, assigns)?;
@@ -102,7 +108,8 @@ pub(crate) fn add_assigns(
     assigns: &mut Items<TypedAssign>,
 ) -> Result<(), OutOfMemory>
     requires sound { list_all (λ (s : Setting). is_sound names.now s.value.expr) settings.now ≡ true }
-    ensures { OnOk result (map (assign_in names.now) assigns.new ≡ map (assign_in names.now) assigns.old ++ flat_map (λ (s : Setting). net_assign names.now sites.now s.name s.value.expr) settings.now) }
+    ensures value { OnOk result (map (assign_in names.now) assigns.new ≡ map (assign_in names.now) assigns.old ++ flat_map (λ (s : Setting). net_assign names.now sites.now s.name s.value.expr) settings.now) }
+    ensures form { OnOk result (are_formed_assigns names.now assigns.new ≡ are_formed_assigns names.now assigns.old) }
 {
     for setting in settings {
         add_assign(

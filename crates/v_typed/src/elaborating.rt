@@ -6,6 +6,8 @@ ghost use Rattle.v_meaning.specs.Declarations.{names_of};
 ghost use Rattle.v_meaning.specs.Sites.{module_sites};
 ghost use Rattle.v_meaning.specs.Modules.{design_of};
 ghost use Rattle.v_core.specs.Cores.{design_in};
+ghost use Rattle.v_core.specs.FormedCores.{is_formed_core};
+ghost use Rattle.v_names.specs.Words.{AreWords};
 ghost use Rattle.v_typing.specs.Sound.{are_sound_items};
 ghost use Rattle.v_sites.specs.Found.{site_in};
 
@@ -26,21 +28,23 @@ pub fn kept_is_sound()
 {}
 
 /// The typed form of a module that keeps the rules of declarations and expressions (E4 to E13), over its declared names; it
-/// does in each cycle what the module does (IEEE Std 1364-2005, 4, 5, 6, 9 and 12). `OutOfMemory` is the only other answer;
-/// it also comes where there are 2^32 names or sites. The work is n log n in the module.
+/// does in each cycle what the module does (IEEE Std 1364-2005, 4, 5, 6, 9 and 12), and each expression in it has 1 to 128
+/// bits, and its operands as many as its operators take. `OutOfMemory` is the only other answer; it also comes where there are 2^32 names or sites. The work is n log n in the module.
 pub fn typed(alloc: Global, names: &Names, module: &Module) -> Result<Core, OutOfMemory>
     requires declared { names.now ≡ names_of «module».now }
     requires kept { first_fault (places_of «module».now) typing_rules ≡ None }
     ensures design { IfOk result (λ core. design_in core ≡ design_of «module».now) }
     ensures names { IfOk result (λ core. core.names ≡ names_of «module».now) }
     ensures sites { IfOk result (λ core. map site_in core.sites ≡ module_sites names.now «module».now.items) }
+    ensures form { IfOk result (λ core. is_formed_core core ≡ true) }
+    ensures words { IfOk result (λ core. AreWords core.names) }
 {
     let found = sites(alloc, names, module)?;
     let places = site_places(alloc, found.as_slice())?;
     let parts = parts_of(alloc, names, &places, module.items.as_slice())?;
     let outputs = outputs_of(alloc, names, module.ports.as_slice())?;
     let name = module.name.name.clone()?;
-    let entries = copy_of(alloc, names.entries())?;
+    let entries = copy_of(alloc, names)?;
     Ok(Core {
         name,
         names: entries,
@@ -61,6 +65,8 @@ pub fn elaborate(alloc: Global, module: &Module) -> Result<Core, Stop>
     ensures accepted { IfOk result (λ core. (first_fault (places_of «module».now) typing_rules ≡ None) × (design_in core ≡ design_of «module».now)) }
     ensures names { IfOk result (λ core. core.names ≡ names_of «module».now) }
     ensures sites { IfOk result (λ core. map site_in core.sites ≡ module_sites (names_of «module».now) «module».now.items) }
+    ensures form { IfOk result (λ core. is_formed_core core ≡ true) }
+    ensures words { IfOk result (λ core. AreWords core.names) }
 {
     let names = declared_names(alloc, module)?;
     Ok(typed(alloc, &names, module)?)

@@ -3,6 +3,7 @@ ghost use Rattle.v_syntax.specs.declared.module.Item.TheVariants as i;
 ghost use Rattle.v_meaning.specs.Modules.{item_assigns, item_clocked, item_combinational};
 ghost use Rattle.v_core.specs.Cores.{assign_in, acts_where};
 ghost use Rattle.v_typing.specs.Sound.{is_sound_stmt, is_sound_item, are_sound_items};
+ghost use Rattle.v_typed.specs.Forms.{are_formed_assigns, are_formed_processes};
 ghost use Rattle.v_typed.specs.Processes as edges;
 
 use crate::assigns::{add_assigns, add_wires};
@@ -42,6 +43,7 @@ fn add_process(
     requires sound { is_sound_stmt names.now body.now ≡ true }
     ensures combinational { OnOk result (acts_where (λ p. not p.clocked) names.now processes.new ≡ acts_where (λ p. not p.clocked) names.now processes.old ++ item_combinational names.now sites.now (i.Always event.now body.now)) }
     ensures clocked { OnOk result (acts_where (λ p. p.clocked) names.now processes.new ≡ acts_where (λ p. p.clocked) names.now processes.old ++ item_clocked names.now sites.now (i.Always event.now body.now)) }
+    ensures form { OnOk result (are_formed_processes names.now processes.new ≡ are_formed_processes names.now processes.old) }
 {
     let clocked = waits_for_edge(event);
     let body = statement(alloc, names, sites, body)?;
@@ -61,6 +63,8 @@ fn add_item(
     ensures assigns { OnOk result (map (assign_in names.now) parts.new.assigns ≡ map (assign_in names.now) parts.old.assigns ++ item_assigns names.now sites.now item.now) }
     ensures combinational { OnOk result (acts_where (λ p. not p.clocked) names.now parts.new.processes ≡ acts_where (λ p. not p.clocked) names.now parts.old.processes ++ item_combinational names.now sites.now item.now) }
     ensures clocked { OnOk result (acts_where (λ p. p.clocked) names.now parts.new.processes ≡ acts_where (λ p. p.clocked) names.now parts.old.processes ++ item_clocked names.now sites.now item.now) }
+    ensures formed_assigns { OnOk result (are_formed_assigns names.now parts.new.assigns ≡ are_formed_assigns names.now parts.old.assigns) }
+    ensures formed_processes { OnOk result (are_formed_processes names.now parts.new.processes ≡ are_formed_processes names.now parts.old.processes) }
 {
     match item {
         Item::Wires { nets, .. } => {
@@ -87,6 +91,8 @@ pub(crate) fn parts_of(
     ensures assigns { IfOk result (λ parts. map (assign_in names.now) parts.assigns ≡ flat_map (item_assigns names.now sites.now) items.now) }
     ensures combinational { IfOk result (λ parts. acts_where (λ p. not p.clocked) names.now parts.processes ≡ flat_map (item_combinational names.now sites.now) items.now) }
     ensures clocked { IfOk result (λ parts. acts_where (λ p. p.clocked) names.now parts.processes ≡ flat_map (item_clocked names.now sites.now) items.now) }
+    ensures formed_assigns { IfOk result (λ parts. are_formed_assigns names.now parts.assigns ≡ true) }
+    ensures formed_processes { IfOk result (λ parts. are_formed_processes names.now parts.processes ≡ true) }
 {
     let mut parts = Parts {
         assigns: Items::new(alloc),

@@ -5,3 +5,4 @@ pub mod Turns
 pub mod Depths
 pub mod OperatorLaws
 pub mod LeafLaws
+pub mod KeepLaws

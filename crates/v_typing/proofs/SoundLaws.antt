@@ -244,3 +244,34 @@ bounds_of e i j h = record {
 
 pub part_bounds : (e : Entry) (a b : Option ℕ) (i j : ℕ) → a ≡ Some i → b ≡ Some j → is_part e a b ≡ true → AreBounds e i j
 part_bounds e a b i j p q h = bounds_of e i j (sym (λ k. is_part e (p k) (q k)) ∙ h)
+
+-- ---- what is joined has a bit at least
+
+positive : (n k : ℕ) → 1 ≤ n * k → 1 ≤ k
+positive n zero h = absurd (omega (arith, h))
+positive n (suc k) h = omega arith
+
+some_width : (names : List Entry) (sites : List ℕ) (count : ℕ) (parts more : List Expr) (o : Open) → more ≡ parts → sense_in o names ≡ joined (meanings names sites more) →
+    can_join names count (judged names parts) ≡ true → 1 ≤ o.width
+some_width names sites count parts more o q word h =
+    let width : o.width ≡ all_width names parts =
+    ap (λ (s : Sense). s.width) word ∙ ap (λ (xs : List Expr). (joined (meanings names sites xs)).width) q ∙ width_is names sites parts in
+    let all : is_between_1_and_128 (Some (count * all_width names parts)) ≡ true =
+    sym (ap (λ (xs : List Expr). is_between_1_and_128 (Some (count * all_width names xs))) (judged_back names parts)) ∙ second_of _ _ h in
+    let some : 1 ≤ all_width names parts =
+    positive count (all_width names parts) (leb-true 1 _ (first_of (nat_le 1 (count * all_width names parts)) (nat_le (count * all_width names parts) 128) all)) in
+    omega (arith, width, some)
+
+pub sound_some : (names : List Entry) (sites : List ℕ) (x : Expr) (brace : ℕ) (parts more : List Expr) (o : Open) → x ≡ e.Concat brace parts → more ≡ parts →
+    sense_in o names ≡ joined (meanings names sites more) → is_sound names x ≡ true → 1 ≤ o.width
+sound_some names sites x brace parts more o is p word h =
+    some_width names sites 1 parts more o p word (second_of (are_sound (judged names parts)) _ (concat names x brace parts is h))
+
+pub sound_inner_some : (names : List Entry) (sites : List ℕ) (x : Expr) (brace at : ℕ) (count : Expr) (inner : ℕ) (parts more : List Expr) (o : Open) →
+    x ≡ e.Replicate brace at count inner parts → more ≡ parts → sense_in o names ≡ joined (meanings names sites more) → is_sound names x ≡ true → 1 ≤ o.width
+sound_inner_some names sites x brace at count inner parts more o is p word h =
+    some_width names sites (or_zero (constant_value names count)) parts more o p word
+    (second_of (is_proper names count && is_between_1_and_128 (constant_value names count) && are_sound (judged names parts)) _ (replicate names x brace at count inner parts is h))
+
+pub count_some : (o : Option ℕ) (n : ℕ) → o ≡ Some n → is_between_1_and_128 o ≡ true → 1 ≤ n
+count_some o n is h = leb-true 1 n (first_of (nat_le 1 n) (nat_le n 128) (sym (ap is_between_1_and_128 is) ∙ h))

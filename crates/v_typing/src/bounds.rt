@@ -4,6 +4,7 @@ ghost use Rattle.v_meaning.specs.Names.{entry_of, or_zero, read_part};
 ghost use Rattle.v_meaning.specs.Declarations.{constant_value};
 ghost use Rattle.v_meaning.specs.Proper.{proper_value, is_part, is_between_1_and_128};
 ghost use Rattle.v_core.specs.Bodies.{sense_in};
+ghost use Rattle.v_core.specs.OpenForms.{OpenFormed};
 
 use crate::leaves::part;
 use crate::operators::replicated;
@@ -35,7 +36,8 @@ pub fn part_between(
     lsb: &Expr,
 ) -> Result<Open, OutOfMemory>
     requires bounds { is_part (entry_of names.now ident.now.name) (proper_value names.now msb.now) (proper_value names.now lsb.now) ≡ true }
-    ensures { IfOk result (λ o. sense_in o names.now ≡ read_part (entry_of names.now ident.now.name) (or_zero (constant_value names.now msb.now)) (or_zero (constant_value names.now lsb.now))) }
+    ensures value { IfOk result (λ o. sense_in o names.now ≡ read_part (entry_of names.now ident.now.name) (or_zero (constant_value names.now msb.now)) (or_zero (constant_value names.now lsb.now))) }
+    ensures form { IfOk result (λ o. OpenFormed o names.now) }
 {
     let m = bound(alloc, names, msb)?;
     let l = bound(alloc, names, lsb)?;
@@ -46,7 +48,8 @@ pub fn part_between(
 pub fn repeated(alloc: Global, names: &Names, count: &Expr, x: Open) -> Result<Open, OutOfMemory>
     requires counted { is_between_1_and_128 (proper_value names.now count.now) ≡ true }
     requires room { or_zero (constant_value names.now count.now) * x.width ≤ 128 }
-    ensures { IfOk result (λ o. sense_in o names.now ≡ replicated (or_zero (constant_value names.now count.now)) (sense_in x names.now)) }
+    ensures value { IfOk result (λ o. sense_in o names.now ≡ replicated (or_zero (constant_value names.now count.now)) (sense_in x names.now)) }
+    ensures form { IfOk result (λ o. OpenFormed x names.now → OpenFormed o names.now) }
 {
     let n = bound(alloc, names, count)?;
     let o = replicated(alloc, n, x)?;

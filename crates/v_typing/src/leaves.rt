@@ -1,9 +1,13 @@
-ghost use Rattle.std.specs.Prelude.{◌≡◌, ◌≤◌, ◌<◌, ◌+◌, ◌-◌, ◌/◌, ◌%◌, ◌^◌, ◌&&◌, if◌then◌else◌, slice_index, IfOk};
+ghost use Rattle.std.specs.Prelude.{◌≡◌, ◌≤◌, ◌<◌, ◌+◌, ◌-◌, ◌/◌, ◌%◌, ◌^◌, ◌&&◌, if◌then◌else◌, nat_le, nat_lt, slice_index, IfOk, List, true};
 ghost use Rattle.v_meaning.specs.Literals.{literal_value};
 ghost use Rattle.v_meaning.specs.Names.{read, read_part, selected, span, entry_of, word_of};
 ghost use Rattle.v_meaning.specs.Expressions.{number_sense, open_at};
 ghost use Rattle.v_core.specs.Values.{typed_value, entry_at, selected_value, index_in};
 ghost use Rattle.v_core.specs.Bodies.{sense_in};
+ghost use Rattle.v_meaning.specs.declared.names.Entry.{Entry};
+ghost use Rattle.v_core.specs.Formed.{formed, has, is_width, keeps_literal, selected_width};
+ghost use Rattle.v_core.specs.OpenForms.{OpenFormed};
+ghost use Rattle.v_numbers.specs.Fit.{IsFit};
 ghost use Rattle.v_typing.specs.Meanings.{is_memory};
 
 use crate::operators::{leaf, own};
@@ -16,14 +20,16 @@ use v_syntax::Ident;
 
 // The word of a name.
 fn word(name: u32, at: u64) -> Typed
-    ensures { typed_value result ≡ (λ names v. word_of (entry_at names name).kind v) }
+    ensures value { typed_value result ≡ (λ names v. word_of (entry_at names name).kind v) }
+    ensures form { formed result ≡ (λ names. record { width = (entry_at names name).width; kept = is_width (entry_at names name).width }) }
 {
     Typed::Name { name, at }
 }
 
 /// A name by itself (IEEE Std 1364-2005, 4.2).
 pub fn name(names: &Names, ident: &Ident) -> Open
-    ensures { sense_in result names.now ≡ read (entry_of names.now ident.now.name) }
+    ensures value { sense_in result names.now ≡ read (entry_of names.now ident.now.name) }
+    ensures form { OpenFormed result names.now }
 {
     let known = names.known(&ident.name);
     let word = word(known.number, ident.at);
@@ -61,7 +67,8 @@ fn select(
     signed: bool,
     index: Typed,
 ) -> Result<Typed, OutOfMemory>
-    ensures { IfOk result (λ t. typed_value t ≡ (λ names v. selected_value (entry_at names name).kind (entry_at names name) (index_in width signed (typed_value index names v)) (slice_index v.sites site) v)) }
+    ensures value { IfOk result (λ t. typed_value t ≡ (λ names v. selected_value (entry_at names name).kind (entry_at names name) (index_in width signed (typed_value index names v)) (slice_index v.sites site) v)) }
+    ensures form { IfOk result (λ t. formed t ≡ (λ names. record { width = selected_width (entry_at names name).kind (entry_at names name).width; kept = is_width (entry_at names name).width && has width (formed index names) })) }
 {
     Ok(Typed::Select {
         name,
@@ -81,7 +88,8 @@ pub fn selected(
     ident: &Ident,
     index: Open,
 ) -> Result<Open, OutOfMemory>
-    ensures { IfOk result (λ o. sense_in o names.now ≡ selected (entry_of names.now ident.now.name) (sense_in index names.now) (open_at sites.now ident.now.at)) }
+    ensures value { IfOk result (λ o. sense_in o names.now ≡ selected (entry_of names.now ident.now.name) (sense_in index names.now) (open_at sites.now ident.now.at)) }
+    ensures form { IfOk result (λ o. OpenFormed index names.now → OpenFormed o names.now) }
 {
     let known = names.known(&ident.name);
     let site = sites.number_of(ident.at);
@@ -104,7 +112,8 @@ pub fn selected(
 
 // So many bits of the word of a name, from the number of the lowest one up.
 fn bits(name: u32, at: u64, low: u32, width: u32) -> Typed
-    ensures { typed_value result ≡ (λ names v. word_of (entry_at names name).kind v / 2 ^ low % 2 ^ width) }
+    ensures value { typed_value result ≡ (λ names v. word_of (entry_at names name).kind v / 2 ^ low % 2 ^ width) }
+    ensures form { formed result ≡ (λ names. record { width = width; kept = is_width width && nat_le (low + width) (entry_at names name).width }) }
 {
     Typed::Part {
         name,
@@ -137,7 +146,8 @@ pub fn part(names: &Names, ident: &Ident, msb: u128, lsb: u128) -> Open
     requires above { (entry_of names.now ident.now.name).low ≤ lsb }
     requires descends { lsb ≤ msb }
     requires within { msb < (entry_of names.now ident.now.name).low + (entry_of names.now ident.now.name).width }
-    ensures { sense_in result names.now ≡ read_part (entry_of names.now ident.now.name) msb lsb }
+    ensures value { sense_in result names.now ≡ read_part (entry_of names.now ident.now.name) msb lsb }
+    ensures form { OpenFormed result names.now }
 {
     let known = names.known(&ident.name);
     let width = span(msb, lsb);
@@ -147,21 +157,24 @@ pub fn part(names: &Names, ident: &Ident, msb: u128, lsb: u128) -> Open
 
 // A word of this width and value.
 fn constant(width: u32, value: u128) -> Typed
-    ensures { typed_value result ≡ (λ names v. value) }
+    ensures value { typed_value result ≡ (λ names v. value) }
+    ensures form { formed result ≡ (λ names. record { width = width; kept = is_width width && nat_lt value (2 ^ width) }) }
 {
     Typed::Constant(width, value)
 }
 
 // A number whose x bits are those of a site.
 fn open_number(literal: Literal, site: u32) -> Typed
-    ensures { typed_value result ≡ (λ names v. literal_value literal (slice_index v.sites site)) }
+    ensures value { typed_value result ≡ (λ names v. literal_value literal (slice_index v.sites site)) }
+    ensures form { formed result ≡ (λ names. record { width = literal.width; kept = keeps_literal literal }) }
 {
     Typed::Number(literal, site)
 }
 
 // The word of a number.
 fn number_word(sites: &Sites, at: u64, literal: Literal) -> Typed
-    ensures { typed_value result ≡ (λ names v. literal_value literal (open_at sites.now at v)) }
+    ensures value { typed_value result ≡ (λ names v. literal_value literal (open_at sites.now at v)) }
+    ensures form { (names : List Entry) → IsFit literal → has literal.width (formed result names) ≡ true }
 {
     if literal.unknown == 0 {
         constant(literal.width, literal.ones)
@@ -172,7 +185,8 @@ fn number_word(sites: &Sites, at: u64, literal: Literal) -> Typed
 
 /// A number, whose bits that are x are those of its site (3.5.1).
 pub fn number(sites: &Sites, at: u64, literal: Literal) -> Open
-    ensures { sense_in result ≡ (λ names. number_sense literal (open_at sites.now at)) }
+    ensures value { sense_in result ≡ (λ names. number_sense literal (open_at sites.now at)) }
+    ensures form { (names : List Entry) → IsFit literal → OpenFormed result names }
 {
     let word = number_word(sites, at, literal);
     leaf(literal.width, literal.signed, word)

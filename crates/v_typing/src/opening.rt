@@ -2,6 +2,7 @@ ghost use Rattle.std.specs.Prelude.{◌≡◌, ◌+◌, ◌≤◌, IfOk, true, n
 ghost use Rattle.v_meaning.specs.Senses.{chained, joined};
 ghost use Rattle.v_meaning.specs.Expressions.{sense_of};
 ghost use Rattle.v_core.specs.Bodies.{sense_in};
+ghost use Rattle.v_core.specs.OpenForms.{OpenFormed};
 ghost use Rattle.v_meaning.specs.Proper.{is_sound};
 ghost use Rattle.v_typing.specs.Meanings.{meanings, link_meanings};
 ghost use Rattle.v_typing.specs.Sound.{all_sound, links_sound};
@@ -22,7 +23,8 @@ use v_syntax::{BinaryOperator, Expr};
 #[cycle(opening)]
 pub fn opened(alloc: Global, names: &Names, sites: &Sites, x: &Expr) -> Result<Open, OutOfMemory>
     requires sound { is_sound names.now x.now ≡ true }
-    ensures { IfOk result (λ o. sense_in o names.now ≡ sense_of names.now sites.now x.now) }
+    ensures value { IfOk result (λ o. sense_in o names.now ≡ sense_of names.now sites.now x.now) }
+    ensures form { IfOk result (λ o. OpenFormed o names.now) }
 {
     match x {
         Expr::Number(n) => Ok(number(sites, n.at, literal(&n.spelling))),
@@ -80,7 +82,8 @@ fn chained(
     links: &[(BinaryOperator, Expr)],
 ) -> Result<Open, OutOfMemory>
     requires sound { links_sound names.now links.now ≡ true }
-    ensures { IfOk result (λ o. sense_in o names.now ≡ chained (sense_in first names.now) (link_meanings names.now sites.now links.now)) }
+    ensures value { IfOk result (λ o. sense_in o names.now ≡ chained (sense_in first names.now) (link_meanings names.now sites.now links.now)) }
+    ensures form { IfOk result (λ o. OpenFormed first names.now → OpenFormed o names.now) }
 {
     let mut all = first;
     for (operator, x) in links {
@@ -103,7 +106,8 @@ fn wider(width: u32, more: u32) -> u32
 fn joined(alloc: Global, names: &Names, sites: &Sites, parts: &[Expr]) -> Result<Open, OutOfMemory>
     requires sound { all_sound names.now parts.now ≡ true }
     requires narrow { nat_le (joined (meanings names.now sites.now parts.now)).width 128 ≡ true }
-    ensures { IfOk result (λ o. sense_in o names.now ≡ joined (meanings names.now sites.now parts.now)) }
+    ensures value { IfOk result (λ o. sense_in o names.now ≡ joined (meanings names.now sites.now parts.now)) }
+    ensures form { IfOk result (λ o. 1 ≤ o.width → OpenFormed o names.now) }
 {
     let mut width = 0u32;
     let mut typed = Items::new(alloc);

@@ -1,7 +1,10 @@
-ghost use Rattle.std.specs.Prelude.{◌≡◌, ◌≤◌, ◌*◌, ◌&&◌, max, IfOk};
-ghost use Rattle.v_meaning.specs.Senses.{own, leaf, by_class, Shared, Compared, Shifted, Logical, operated, prefixed, chosen, replicated, recast};
+ghost use Rattle.std.specs.Prelude.{◌≡◌, ◌≤◌, ◌*◌, ◌&&◌, max, IfOk, List, true};
+ghost use Rattle.v_meaning.specs.declared.names.Entry.{Entry};
+ghost use Rattle.v_meaning.specs.Senses.{class_of, own, leaf, by_class, Shared, Compared, Shifted, Logical, operated, prefixed, chosen, replicated, recast};
 ghost use Rattle.v_core.specs.Values.{typed_value};
 ghost use Rattle.v_core.specs.Bodies.{body_value, sense_in};
+ghost use Rattle.v_core.specs.Formed.{formed, has, is_width};
+ghost use Rattle.v_core.specs.OpenForms.{OpenFormed, body_form};
 
 use lz_base::{Boxed, OutOfMemory};
 use std::alloc::Global;
@@ -11,14 +14,16 @@ use v_syntax::{BinaryOperator, Cast, UnaryOperator};
 
 /// The expression at its own width and sign. `OutOfMemory` is the only other answer, here and below.
 pub fn own(alloc: Global, x: Open) -> Result<Typed, OutOfMemory>
-    ensures { IfOk result (λ t. typed_value t ≡ (λ names. own (sense_in x names))) }
+    ensures value { IfOk result (λ t. typed_value t ≡ (λ names. own (sense_in x names))) }
+    ensures form { IfOk result (λ t. (names : List Entry) → OpenFormed x names → has x.width (formed t names) ≡ true) }
 {
     fix(alloc, x.body, x.width, x.signed)
 }
 
 /// What has this width and sign, and no operands that take the final ones.
 pub fn leaf(width: u32, signed: bool, x: Typed) -> Open
-    ensures { sense_in result ≡ (λ names. leaf width signed (typed_value x names)) }
+    ensures value { sense_in result ≡ (λ names. leaf width signed (typed_value x names)) }
+    ensures form { (names : List Entry) → is_width width ≡ true → has width (formed x names) ≡ true → OpenFormed result names }
 {
     Open {
         width,
@@ -29,13 +34,15 @@ pub fn leaf(width: u32, signed: bool, x: Typed) -> Open
 
 // What determines itself, as an operand of a chain.
 fn itself(x: Typed) -> Body
-    ensures { body_value result ≡ (λ width signed. typed_value x) }
+    ensures value { body_value result ≡ (λ width signed. typed_value x) }
+    ensures form { body_form result ≡ (λ width signed. formed x) }
 {
     Body::Own(x)
 }
 
 fn shared(alloc: Global, operator: BinaryOperator, x: Open, y: Open) -> Result<Open, OutOfMemory>
-    ensures { IfOk result (λ o. sense_in o ≡ (λ names. by_class Shared operator (sense_in x names) (sense_in y names))) }
+    ensures value { IfOk result (λ o. sense_in o ≡ (λ names. by_class Shared operator (sense_in x names) (sense_in y names))) }
+    ensures form { IfOk result (λ o. (names : List Entry) → class_of operator ≡ Shared → OpenFormed x names → OpenFormed y names → OpenFormed o names) }
 {
     let width = x.width.max(y.width);
     let signed = x.signed && y.signed;
@@ -62,7 +69,8 @@ fn joint_sign(x: bool, y: bool) -> bool
 }
 
 fn compared(alloc: Global, operator: BinaryOperator, x: Open, y: Open) -> Result<Open, OutOfMemory>
-    ensures { IfOk result (λ o. sense_in o ≡ (λ names. by_class Compared operator (sense_in x names) (sense_in y names))) }
+    ensures value { IfOk result (λ o. sense_in o ≡ (λ names. by_class Compared operator (sense_in x names) (sense_in y names))) }
+    ensures form { IfOk result (λ o. (names : List Entry) → class_of operator ≡ Compared → OpenFormed x names → OpenFormed y names → OpenFormed o names) }
 {
     let width = joint_width(x.width, y.width);
     let signed = joint_sign(x.signed, y.signed);
@@ -78,7 +86,8 @@ fn compared(alloc: Global, operator: BinaryOperator, x: Open, y: Open) -> Result
 }
 
 fn shifted(alloc: Global, operator: BinaryOperator, x: Open, y: Open) -> Result<Open, OutOfMemory>
-    ensures { IfOk result (λ o. sense_in o ≡ (λ names. by_class Shifted operator (sense_in x names) (sense_in y names))) }
+    ensures value { IfOk result (λ o. sense_in o ≡ (λ names. by_class Shifted operator (sense_in x names) (sense_in y names))) }
+    ensures form { IfOk result (λ o. (names : List Entry) → class_of operator ≡ Shifted → OpenFormed x names → OpenFormed y names → OpenFormed o names) }
 {
     let by = own(alloc, y)?;
     let body = body_linked(alloc, operator, x.body, itself(by))?;
@@ -90,7 +99,8 @@ fn shifted(alloc: Global, operator: BinaryOperator, x: Open, y: Open) -> Result<
 }
 
 fn logical(alloc: Global, operator: BinaryOperator, x: Open, y: Open) -> Result<Open, OutOfMemory>
-    ensures { IfOk result (λ o. sense_in o ≡ (λ names. by_class Logical operator (sense_in x names) (sense_in y names))) }
+    ensures value { IfOk result (λ o. sense_in o ≡ (λ names. by_class Logical operator (sense_in x names) (sense_in y names))) }
+    ensures form { IfOk result (λ o. (names : List Entry) → class_of operator ≡ Logical → OpenFormed x names → OpenFormed y names → OpenFormed o names) }
 {
     let left = fix_before(alloc, x.body, x.width, x.signed)?;
     let right = own(alloc, y)?;
@@ -110,7 +120,8 @@ pub fn operated(
     x: Open,
     y: Open,
 ) -> Result<Open, OutOfMemory>
-    ensures { IfOk result (λ o. sense_in o ≡ (λ names. operated operator (sense_in x names) (sense_in y names))) }
+    ensures value { IfOk result (λ o. sense_in o ≡ (λ names. operated operator (sense_in x names) (sense_in y names))) }
+    ensures form { IfOk result (λ o. (names : List Entry) → OpenFormed x names → OpenFormed y names → OpenFormed o names) }
 {
     match class_of(operator) {
         Class::Shared => shared(alloc, operator, x, y),
@@ -122,11 +133,13 @@ pub fn operated(
 
 /// An operator before an operand.
 pub fn prefixed(alloc: Global, operator: UnaryOperator, x: Open) -> Result<Open, OutOfMemory>
-    ensures { IfOk result (λ o. sense_in o ≡ (λ names. prefixed operator (sense_in x names))) }
+    ensures value { IfOk result (λ o. sense_in o ≡ (λ names. prefixed operator (sense_in x names))) }
+    ensures form { IfOk result (λ o. (names : List Entry) → OpenFormed x names → OpenFormed o names) }
 {
     let width = x.width;
     if is_through(operator) {
-        let body = Body::Unary(operator, Boxed::new(alloc, x.body)?);
+        let inner = Boxed::new(alloc, x.body)?;
+        let body = Body::Unary(operator, inner);
         return Ok(Open {
             width,
             signed: x.signed,
@@ -140,7 +153,8 @@ pub fn prefixed(alloc: Global, operator: UnaryOperator, x: Open) -> Result<Open,
 
 /// `c ? x : y` (5.1.13)
 pub fn chosen(alloc: Global, c: Open, x: Open, y: Open) -> Result<Open, OutOfMemory>
-    ensures { IfOk result (λ o. sense_in o ≡ (λ names. chosen (sense_in c names) (sense_in x names) (sense_in y names))) }
+    ensures value { IfOk result (λ o. sense_in o ≡ (λ names. chosen (sense_in c names) (sense_in x names) (sense_in y names))) }
+    ensures form { IfOk result (λ o. (names : List Entry) → OpenFormed c names → OpenFormed x names → OpenFormed y names → OpenFormed o names) }
 {
     let condition = own(alloc, c)?;
     let width = x.width.max(y.width);
@@ -156,7 +170,8 @@ pub fn chosen(alloc: Global, c: Open, x: Open, y: Open) -> Result<Open, OutOfMem
 
 /// `$signed` and `$unsigned` (5.5)
 pub fn recast(alloc: Global, sign: Cast, x: Open) -> Result<Open, OutOfMemory>
-    ensures { IfOk result (λ o. sense_in o ≡ (λ names. recast sign (sense_in x names))) }
+    ensures value { IfOk result (λ o. sense_in o ≡ (λ names. recast sign (sense_in x names))) }
+    ensures form { IfOk result (λ o. (names : List Entry) → OpenFormed x names → OpenFormed o names) }
 {
     let width = x.width;
     let t = own(alloc, x)?;
@@ -167,7 +182,8 @@ pub fn recast(alloc: Global, sign: Cast, x: Open) -> Result<Open, OutOfMemory>
 pub fn replicated(alloc: Global, count: u128, x: Open) -> Result<Open, OutOfMemory>
     requires few { count ≤ 128 }
     requires room { count * x.width ≤ 128 }
-    ensures { IfOk result (λ o. sense_in o ≡ (λ names. replicated count (sense_in x names))) }
+    ensures value { IfOk result (λ o. sense_in o ≡ (λ names. replicated count (sense_in x names))) }
+    ensures form { IfOk result (λ o. (names : List Entry) → 1 ≤ count → OpenFormed x names → OpenFormed o names) }
 {
     let count = count as u32;
     let width = x.width;

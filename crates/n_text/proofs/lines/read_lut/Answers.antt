@@ -20,6 +20,6 @@ pub returns : goal.returns
 returns c =
     let nets = c.read_table.new.numbers.items in
     let table = subst (λ n. Takes (IsTable n) Anything c.args.bytes.now (nets, c.in_ok-table.table) c.in_ok-table.rest.now) c.most_leaves.ensures.most c.in_ok-table.ensures in
-    let same : c.lut.result ≡ stored.Lut nets c.in_ok-table.table = c.lut.ensures ∙ ap (λ (ls : List ℕ). stored.Lut ls c.in_ok-table.table) c.deref.ensures.value in
+    let same : c.lut-cell.result ≡ stored.Lut nets c.in_ok-table.table = c.lut-cell.ensures ∙ ap (λ (ls : List ℕ). stored.Lut ls c.in_ok-table.table) (c.new.ensures ∙ c.deref.ensures.value) in
     then_obtains (IsTable (leaves_of c.args.format)) Anything LutEnd Anything _ _ c.end_line.result (λ t v text behind is d. tt) table
     (subst (λ (s : Stored). Obtains (Ended (Some (line.Cell s))) Anything (λ r. r.0) (λ r. r.1.now) c.in_ok-table.rest.now c.end_line.result) same c.end_line.ensures.reads)

@@ -14,18 +14,18 @@ use Rattle.n_text.proofs.raw_reading.read_lines.Goals as goal
 
 pub lines-init : goal.lines-init
 lines-init c =
-    subst (λ (n : NetlistValue). After (Rest c.args.format (bare c.args.name)) Nothing c.args.bytes.now (Rest c.args.format n) c.args.bytes.now) (sym c.new-raw.ensures) (after_start (Rest c.args.format (bare c.args.name)) Nothing c.args.bytes.now)
+    subst (λ (n : NetlistValue). After (Rest c.args.format (bare c.args.name)) Nothing c.args.bytes.now (Rest c.args.format n) c.args.bytes.now) (sym c.bare-raw.ensures) (after_start (Rest c.args.format (bare c.args.name)) Nothing c.args.bytes.now)
 
 pub returns-in_err-line : goal.returns-in_err-line
 returns-in_err-line c =
     hand_on _ _ _ _ _ _ _ _ _ _ c.from_residual.result c.read_line.result _ c.from_residual.ensures.1 c.in_err-line.was c.read_line.ensures
     (λ l b.
     line_broken (IsLine c.args.format) with_line MayEnd end_line c.lines.raw (lines_some c.args.format c.lines.raw) c.lines.invariant
-    (after_breaks (next_line c.args.format c.lines.raw c.lines.left.now) (subst (λ (ks : List Key). Breaks (IsNext c.args.format ks) Anything c.lines.left.now l) c.keys.ensures.keys b)))
+    (after_breaks (next_line c.args.format c.lines.raw c.lines.left.now) (subst (λ (ks : List Key). Breaks (IsNext c.args.format ks) Anything c.lines.left.now l) c.keys_of.ensures.keys b)))
 
 pub returns-in_err-read_end : goal.returns-in_err-read_end
 returns-in_err-read_end c =
-    let taken = subst (λ (ks : List Key). Takes (IsNext c.args.format ks) Anything c.lines.left.now c.in_ok-line.line c.in_ok-line.rest.now) c.keys.ensures.keys c.in_ok-line.ensures in
+    let taken = subst (λ (ks : List Key). Takes (IsNext c.args.format ks) Anything c.lines.left.now c.in_ok-line.line c.in_ok-line.rest.now) c.keys_of.ensures.keys c.in_ok-line.ensures in
     let none : c.in_ok-line.line ≡ None = c.in_default.is in
     let last = subst (λ (o : Option Line). Takes (IsNext c.args.format (keys_of c.lines.raw)) Anything c.lines.left.now o c.in_ok-line.rest.now) none taken in
     let after = after_line (IsLine c.args.format) with_line MayEnd end_line c.lines.raw None c.lines.invariant (after_takes (next_line c.args.format c.lines.raw c.lines.left.now) last) in
@@ -34,7 +34,7 @@ returns-in_err-read_end c =
 
 pub returns-in_default : goal.returns-in_default
 returns-in_default c =
-    let taken = subst (λ (ks : List Key). Takes (IsNext c.args.format ks) Anything c.lines.left.now c.in_ok-line.line c.in_ok-line.rest.now) c.keys.ensures.keys c.in_ok-line.ensures in
+    let taken = subst (λ (ks : List Key). Takes (IsNext c.args.format ks) Anything c.lines.left.now c.in_ok-line.line c.in_ok-line.rest.now) c.keys_of.ensures.keys c.in_ok-line.ensures in
     let none : c.in_ok-line.line ≡ None = c.in_default.is in
     let last = subst (λ (o : Option Line). Takes (IsNext c.args.format (keys_of c.lines.raw)) Anything c.lines.left.now o c.in_ok-line.rest.now) none taken in
     let after = after_line (IsLine c.args.format) with_line MayEnd end_line c.lines.raw None c.lines.invariant (after_takes (next_line c.args.format c.lines.raw c.lines.left.now) last) in
@@ -42,12 +42,12 @@ returns-in_default c =
 
 pub lines-preserved : goal.lines-preserved
 lines-preserved c =
-    let taken = subst (λ (ks : List Key). Takes (IsNext c.args.format ks) Anything c.lines.left.now c.in_ok-line.line c.in_ok-line.rest.now) c.keys.ensures.keys c.in_ok-line.ensures in
+    let taken = subst (λ (ks : List Key). Takes (IsNext c.args.format ks) Anything c.lines.left.now c.in_ok-line.line c.in_ok-line.rest.now) c.keys_of.ensures.keys c.in_ok-line.ensures in
     let next = subst (λ (o : Option Line). Takes (IsNext c.args.format (keys_of c.lines.raw)) Anything c.lines.left.now o c.in_ok-line.rest.now) c.in-Some.is taken in
     subst (λ (n : NetlistValue). After (Rest c.args.format (bare c.args.name)) Nothing c.args.bytes.now (Rest c.args.format n) c.in_ok-line.rest.now) (sym c.in_ok-add.ensures)
     (after_line (IsLine c.args.format) with_line MayEnd end_line c.lines.raw (Some c.in-Some.line) c.lines.invariant (after_takes (next_line c.args.format c.lines.raw c.lines.left.now) next))
 
 pub lines-smaller : goal.lines-smaller
 lines-smaller c =
-    let taken = subst (λ (ks : List Key). Takes (IsNext c.args.format ks) Anything c.lines.left.now c.in_ok-line.line c.in_ok-line.rest.now) c.keys.ensures.keys c.in_ok-line.ensures in
+    let taken = subst (λ (ks : List Key). Takes (IsNext c.args.format ks) Anything c.lines.left.now c.in_ok-line.line c.in_ok-line.rest.now) c.keys_of.ensures.keys c.in_ok-line.ensures in
     next_less c.args.format c.lines.raw c.lines.left.now c.in_ok-line.line c.in_ok-line.rest.now taken

@@ -1,23 +1,23 @@
 use Rattle.std.proofs.Common.{◌≡◌, ◌+◌, arith}
 use Rattle.n_cells.specs.Netlist.{net_count}
-use Rattle.n_text.specs.Parts.{parts_value}
+use Rattle.n_text.specs.Lent.{lent_value}
 use Rattle.n_text.proofs.Faulting.{begun_at, rooms, at_flops, at_cells, at_outputs, none_there, fault_inputs, fault_flops, fault_cells, fault_outputs}
 use Rattle.n_text.proofs.references.judge.Goals as goal
 
 pub returns-in_err-at-2-clause-fault : goal.returns-in_err-at-2-clause-fault
 returns-in_err-at-2-clause-fault c =
-    let n = parts_value c.args.parts in
+    let n = lent_value c.args.parts in
     fault_inputs c.args.format n c.from_residual-in_err-at-2.result c.in_err-at-2.field-0.0 c.in_ok-at.at c.from_residual-in_err-at-2.ensures.1 (begun_at c.args.format n _ _ c.behind_model.ensures c.in_ok-at.ensures.place) (c.in_err-at-2.ensures.judged _ (c.in_ok-at.ensures.met c.no_names-met.ensures))
 
 pub judge_flops-requires : goal.judge_flops-requires
 judge_flops-requires c =
-    let n = parts_value c.args.parts in
+    let n = lent_value c.args.parts in
     let flops = at_flops c.args.format n c.in_ok-at.at c.in_ok-at-2.at (begun_at c.args.format n _ _ c.behind_model.ensures c.in_ok-at.ensures.place) (c.in_ok-at-2.ensures.judged _ (c.in_ok-at.ensures.met c.no_names-met.ensures)) in
     record { room = omega (arith, flops.begins, (rooms c.args.format n c.requires.room).flops) }
 
 pub returns-in_err-at-3-clause-fault : goal.returns-in_err-at-3-clause-fault
 returns-in_err-at-3-clause-fault c =
-    let n = parts_value c.args.parts in
+    let n = lent_value c.args.parts in
     let flops = at_flops c.args.format n c.in_ok-at.at c.in_ok-at-2.at (begun_at c.args.format n _ _ c.behind_model.ensures c.in_ok-at.ensures.place) (c.in_ok-at-2.ensures.judged _ (c.in_ok-at.ensures.met c.no_names-met.ensures)) in
     let count : c.count_front-first.result + c.count_nets.result ≡ net_count n = omega arith in
     fault_flops c.args.format n c.from_residual-in_err-at-3.result c.in_err-at-3.field-0.0 (c.count_front-first.result + c.count_nets.result) c.in_ok-at-2.at c.from_residual-in_err-at-3.ensures.1 count flops c.in_err-at-3.ensures
@@ -27,7 +27,7 @@ judge_cells-requires-clause-nets c = omega (arith, c.count_front-first.ensures.b
 
 pub judge_cells-requires-clause-room : goal.judge_cells-requires-clause-room
 judge_cells-requires-clause-room c =
-    let n = parts_value c.args.parts in
+    let n = lent_value c.args.parts in
     let flops = at_flops c.args.format n c.in_ok-at.at c.in_ok-at-2.at (begun_at c.args.format n _ _ c.behind_model.ensures c.in_ok-at.ensures.place) (c.in_ok-at-2.ensures.judged _ (c.in_ok-at.ensures.met c.no_names-met.ensures)) in
     let count : c.count_front-first.result + c.count_nets.result ≡ net_count n = omega arith in
     let cells = at_cells c.args.format n (c.count_front-first.result + c.count_nets.result) c.in_ok-at-2.at c.in_ok-at-3.at count flops c.in_ok-at-3.ensures in
@@ -35,7 +35,7 @@ judge_cells-requires-clause-room c =
 
 pub returns-in_err-at-4-clause-fault : goal.returns-in_err-at-4-clause-fault
 returns-in_err-at-4-clause-fault c =
-    let n = parts_value c.args.parts in
+    let n = lent_value c.args.parts in
     let flops = at_flops c.args.format n c.in_ok-at.at c.in_ok-at-2.at (begun_at c.args.format n _ _ c.behind_model.ensures c.in_ok-at.ensures.place) (c.in_ok-at-2.ensures.judged _ (c.in_ok-at.ensures.met c.no_names-met.ensures)) in
     let count : c.count_front-first.result + c.count_nets.result ≡ net_count n = omega arith in
     let cells = at_cells c.args.format n (c.count_front-first.result + c.count_nets.result) c.in_ok-at-2.at c.in_ok-at-3.at count flops c.in_ok-at-3.ensures in
@@ -43,7 +43,7 @@ returns-in_err-at-4-clause-fault c =
 
 pub judge_outputs-requires-clause-room : goal.judge_outputs-requires-clause-room
 judge_outputs-requires-clause-room c =
-    let n = parts_value c.args.parts in
+    let n = lent_value c.args.parts in
     let flops = at_flops c.args.format n c.in_ok-at.at c.in_ok-at-2.at (begun_at c.args.format n _ _ c.behind_model.ensures c.in_ok-at.ensures.place) (c.in_ok-at-2.ensures.judged _ (c.in_ok-at.ensures.met c.no_names-met.ensures)) in
     let count : c.count_front-first.result + c.count_nets.result ≡ net_count n = omega arith in
     let cells = at_cells c.args.format n (c.count_front-first.result + c.count_nets.result) c.in_ok-at-2.at c.in_ok-at-3.at count flops c.in_ok-at-3.ensures in
@@ -52,7 +52,7 @@ judge_outputs-requires-clause-room c =
 
 pub returns-in_err-judge_outputs-clause-fault : goal.returns-in_err-judge_outputs-clause-fault
 returns-in_err-judge_outputs-clause-fault c =
-    let n = parts_value c.args.parts in
+    let n = lent_value c.args.parts in
     let flops = at_flops c.args.format n c.in_ok-at.at c.in_ok-at-2.at (begun_at c.args.format n _ _ c.behind_model.ensures c.in_ok-at.ensures.place) (c.in_ok-at-2.ensures.judged _ (c.in_ok-at.ensures.met c.no_names-met.ensures)) in
     let count : c.count_front-first.result + c.count_nets.result ≡ net_count n = omega arith in
     let cells = at_cells c.args.format n (c.count_front-first.result + c.count_nets.result) c.in_ok-at-2.at c.in_ok-at-3.at count flops c.in_ok-at-3.ensures in
@@ -61,7 +61,7 @@ returns-in_err-judge_outputs-clause-fault c =
 
 pub returns-clause-right : goal.returns-clause-right
 returns-clause-right c =
-    let n = parts_value c.args.parts in
+    let n = lent_value c.args.parts in
     let flops = at_flops c.args.format n c.in_ok-at.at c.in_ok-at-2.at (begun_at c.args.format n _ _ c.behind_model.ensures c.in_ok-at.ensures.place) (c.in_ok-at-2.ensures.judged _ (c.in_ok-at.ensures.met c.no_names-met.ensures)) in
     let count : c.count_front-first.result + c.count_nets.result ≡ net_count n = omega arith in
     let cells = at_cells c.args.format n (c.count_front-first.result + c.count_nets.result) c.in_ok-at-2.at c.in_ok-at-3.at count flops c.in_ok-at-3.ensures in

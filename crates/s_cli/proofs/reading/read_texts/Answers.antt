@@ -1,4 +1,4 @@
-use Rattle.std.proofs.Common.{◌∙◌, arith, rules}
+use Rattle.std.proofs.Common.{◌∙◌, rules}
 use Rattle.s_cli.proofs.Texts.{read_next}
 use Rattle.s_cli.proofs.reading.read_texts.Goals as goal
 

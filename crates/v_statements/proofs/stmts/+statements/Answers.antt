@@ -8,13 +8,17 @@ use Rattle.v_core.specs.Statements.{ActsIn}
 use Rattle.v_typing.specs.Sound.{is_sound_stmt}
 use Rattle.v_statements.specs.Sound.{is_sound_arm}
 use Rattle.v_statements.proofs.Depths.{body_deeper, if_deeper, then_deeper, else_deeper, arms_deeper, arm_deeper}
+use Rattle.v_core.specs.declared.statement.TypedStmt.{TypedStmt}
+use Rattle.v_core.specs.FormedCores.{KeptIn, is_formed_stmt}
+use Rattle.v_statements.specs.Forms.{ArmFormed}
+use Rattle.v_statements.proofs.FormLaws.{all_push, both, each_push}
 use Rattle.v_statements.proofs.Turns.{one_of, one_same, all_same}
 use Rattle.v_statements.proofs.OpenLaws.{arm_opened}
 use Rattle.v_statements.proofs.StmtLaws.{when_null, when_block, when_if, when_if_else, when_case, when_assign, branch_is, case_is_source, sound_block, sound_if, sound_then, sound_condition, sound_one, sound_other, sound_subject, sound_arms, sound_target, sound_value, sound_label, sound_body}
 use Rattle.v_statements.proofs.stmts.+statements.Goals as goal
 
-pub statement-returns-in-Null : goal.statement-returns-in-Null
-statement-returns-in-Null t c = ap (λ (f : ActsIn). f c.args.names.now) c.nothing.ensures ∙ when_null c.args.names.now c.args.sites.now c.args.s.now c.in-Null.is
+pub statement-returns-in-Null-clause-value : goal.statement-returns-in-Null-clause-value
+statement-returns-in-Null-clause-value t c = ap (λ (f : ActsIn). f c.args.names.now) c.nothing.ensures.value ∙ when_null c.args.names.now c.args.sites.now c.args.s.now c.in-Null.is
 
 pub statement-each-requires : goal.statement-each-requires
 statement-each-requires t c = (
@@ -22,9 +26,9 @@ statement-each-requires t c = (
   sound_block c.args.names.now c.args.s.now _ _ c.in-Block.is c.as_slice.ensures c.requires.sound,
 )
 
-pub statement-returns-in_ok-body-in-Block : goal.statement-returns-in_ok-body-in-Block
-statement-returns-in_ok-body-in-Block t c =
-    ap (λ (f : ActsIn). f c.args.names.now) c.in_turn.ensures ∙ ap sequence c.in_ok-body-in-Block.ensures
+pub statement-returns-in_ok-body-in-Block-clause-value : goal.statement-returns-in_ok-body-in-Block-clause-value
+statement-returns-in_ok-body-in-Block-clause-value t c =
+    ap (λ (f : ActsIn). f c.args.names.now) c.in_turn.ensures.value ∙ ap sequence c.in_ok-body-in-Block.ensures.value
     ∙ when_block c.args.names.now c.args.sites.now c.args.s.now _ _ c.in-Block.is c.as_slice.ensures
 
 pub statement-condition-requires : goal.statement-condition-requires
@@ -36,9 +40,9 @@ statement-statement-requires t c = (
   sound_then c.args.names.now c.args.s.now _ _ _ c.in-If.is c.get.ensures c.requires.sound,
 )
 
-pub statement-returns-in_ok-t-in-If : goal.statement-returns-in_ok-t-in-If
-statement-returns-in_ok-t-in-If t c =
-    branch_is c.args.names.now _ _ _ _ (sense_of c.args.names.now c.args.sites.now c.in-If.x) _ _ c.in_ok-t-in-If.ensures c.in_ok-x-in-If.ensures c.in_ok-one-in-If.ensures (ap (λ (f : ActsIn). f c.args.names.now) c.nothing-in-If.ensures)
+pub statement-returns-in_ok-t-in-If-clause-value : goal.statement-returns-in_ok-t-in-If-clause-value
+statement-returns-in_ok-t-in-If-clause-value t c =
+    branch_is c.args.names.now _ _ _ _ (sense_of c.args.names.now c.args.sites.now c.in-If.x) _ _ c.in_ok-t-in-If.ensures.value c.in_ok-x-in-If.ensures.value c.in_ok-one-in-If.ensures.value (ap (λ (f : ActsIn). f c.args.names.now) c.nothing-in-If.ensures.value)
     ∙ when_if c.args.names.now c.args.sites.now c.args.s.now _ _ _ c.in-If.is c.get.ensures
 
 pub statement-condition-requires-in-IfElse : goal.statement-condition-requires-in-IfElse
@@ -56,9 +60,9 @@ statement-statement-requires-in-IfElse-2 t c = (
   sound_other c.args.names.now c.args.s.now _ _ _ _ c.in-IfElse.is c.get-in-IfElse-2.ensures c.requires.sound,
 )
 
-pub statement-returns-in_ok-t-in-IfElse : goal.statement-returns-in_ok-t-in-IfElse
-statement-returns-in_ok-t-in-IfElse t c =
-    branch_is c.args.names.now _ _ _ _ (sense_of c.args.names.now c.args.sites.now c.in-IfElse.x) _ _ c.in_ok-t-in-IfElse.ensures c.in_ok-x-in-IfElse.ensures c.in_ok-one-in-IfElse.ensures c.in_ok-other-in-IfElse.ensures
+pub statement-returns-in_ok-t-in-IfElse-clause-value : goal.statement-returns-in_ok-t-in-IfElse-clause-value
+statement-returns-in_ok-t-in-IfElse-clause-value t c =
+    branch_is c.args.names.now _ _ _ _ (sense_of c.args.names.now c.args.sites.now c.in-IfElse.x) _ _ c.in_ok-t-in-IfElse.ensures.value c.in_ok-x-in-IfElse.ensures.value c.in_ok-one-in-IfElse.ensures.value c.in_ok-other-in-IfElse.ensures.value
     ∙ when_if_else c.args.names.now c.args.sites.now c.args.s.now _ _ _ _ _ c.in-IfElse.is c.get-in-IfElse.ensures c.get-in-IfElse-2.ensures
 
 pub statement-opened-requires : goal.statement-opened-requires
@@ -70,9 +74,9 @@ statement-opened_arms-requires t c = (
   sound_arms c.args.names.now c.args.s.now _ _ _ _ c.in-Case.is c.as_slice-in-Case.ensures c.requires.sound,
 )
 
-pub statement-returns-in_ok-t-in-Case : goal.statement-returns-in_ok-t-in-Case
-statement-returns-in_ok-t-in-Case t c =
-    c.in_ok-t-in-Case.ensures c.args.names.now ∙ case_is_source c.args.names.now c.args.sites.now _ _ _ _ _ c.in_ok-subject-in-Case.ensures c.in_ok-arms-in-Case.ensures
+pub statement-returns-in_ok-t-in-Case-clause-value : goal.statement-returns-in_ok-t-in-Case-clause-value
+statement-returns-in_ok-t-in-Case-clause-value t c =
+    c.in_ok-t-in-Case.ensures.value c.args.names.now ∙ case_is_source c.args.names.now c.args.sites.now _ _ _ _ _ c.in_ok-subject-in-Case.ensures.value c.in_ok-arms-in-Case.ensures.value
     ∙ when_case c.args.names.now c.args.sites.now c.args.s.now _ _ _ _ c.in-Case.is c.as_slice-in-Case.ensures
 
 pub statement-assignment-requires-clause-target : goal.statement-assignment-requires-clause-target
@@ -81,9 +85,9 @@ statement-assignment-requires-clause-target t c = sound_target c.args.names.now 
 pub statement-assignment-requires-clause-value : goal.statement-assignment-requires-clause-value
 statement-assignment-requires-clause-value t c = sound_value c.args.names.now c.args.s.now _ _ _ c.in-Assign.is c.requires.sound
 
-pub statement-returns-in_ok-t-in-Assign : goal.statement-returns-in_ok-t-in-Assign
-statement-returns-in_ok-t-in-Assign t c =
-    c.in_ok-t-in-Assign.ensures ∙ when_assign c.args.names.now c.args.sites.now c.args.s.now _ _ _ _ c.in-Assign.is c.get-in-Assign.ensures
+pub statement-returns-in_ok-t-in-Assign-clause-value : goal.statement-returns-in_ok-t-in-Assign-clause-value
+statement-returns-in_ok-t-in-Assign-clause-value t c =
+    c.in_ok-t-in-Assign.ensures.value ∙ when_assign c.args.names.now c.args.sites.now c.args.s.now _ _ _ _ c.in-Assign.is c.get-in-Assign.ensures
 
 pub each-statement-requires : goal.each-statement-requires
 each-statement-requires t c = (
@@ -92,11 +96,13 @@ each-statement-requires t c = (
 )
 
 pub each-loop-s-preserved : goal.each-loop-s-preserved
-each-loop-s-preserved t c =
-    one_same _ _ c.loop-s.all _ c.args.body.now _ _ _ c.loop-s-test.true c.s-item.is c.in_ok-push.ensures.ok c.in_ok-one.ensures c.loop-s.invariant
+each-loop-s-preserved t c = (
+  one_same _ _ c.loop-s.all _ c.args.body.now _ _ _ c.loop-s-test.true c.s-item.is c.in_ok-push.ensures.ok c.in_ok-one.ensures.value c.loop-s.invariant.0,
+  all_push (λ (x : TypedStmt). is_formed_stmt x c.args.names.now) c.loop-s.all _ _ c.in_ok-push.ensures.ok c.in_ok-one.ensures.form c.loop-s.invariant.1,
+)
 
-pub each-returns : goal.each-returns
-each-returns t c = all_same _ _ c.loop-s.all c.args.body.now _ c.loop-s-test.false c.loop-s.invariant
+pub each-returns-clause-value : goal.each-returns-clause-value
+each-returns-clause-value t c = all_same _ _ c.loop-s.all c.args.body.now _ c.loop-s-test.false c.loop-s.invariant.0
 
 pub opened_arms-opened_label-requires : goal.opened_arms-opened_label-requires
 opened_arms-opened_label-requires t c = record {
@@ -110,9 +116,42 @@ opened_arms-statement-requires t c = (
 )
 
 pub opened_arms-loop-arm-preserved : goal.opened_arms-loop-arm-preserved
-opened_arms-loop-arm-preserved t c =
-    one_same _ _ c.loop-arm.all _ c.args.arms.now _ _ _ c.loop-arm-test.true c.arm-item.is c.in_ok-push.ensures.ok
-    (arm_opened c.args.names.now c.args.sites.now c.args.kind _ _ _ c.in_ok-label.ensures.items c.in_ok-label.ensures.default c.in_ok-body.ensures) c.loop-arm.invariant
+opened_arms-loop-arm-preserved t c = (
+  one_same _ _ c.loop-arm.all _ c.args.arms.now _ _ _ c.loop-arm-test.true c.arm-item.is c.in_ok-push.ensures.ok
+      (arm_opened c.args.names.now c.args.sites.now c.args.kind _ _ _ c.in_ok-label.ensures.items c.in_ok-label.ensures.default c.in_ok-body.ensures.value) c.loop-arm.invariant.0,
+  each_push (ArmFormed c.args.names.now) c.loop-arm.all _ _ c.in_ok-push.ensures.ok (record { items = c.in_ok-label.ensures.form; body = c.in_ok-body.ensures.form })
+      c.loop-arm.invariant.1,
+)
 
-pub opened_arms-returns : goal.opened_arms-returns
-opened_arms-returns t c = all_same _ _ c.loop-arm.all c.args.arms.now _ c.loop-arm-test.false c.loop-arm.invariant
+pub opened_arms-returns-clause-value : goal.opened_arms-returns-clause-value
+opened_arms-returns-clause-value t c = all_same _ _ c.loop-arm.all c.args.arms.now _ c.loop-arm-test.false c.loop-arm.invariant.0
+
+-- ---- widths
+
+pub statement-returns-in-Null-clause-form : goal.statement-returns-in-Null-clause-form
+statement-returns-in-Null-clause-form t c = ap (λ (f : KeptIn). f c.args.names.now) c.nothing.ensures.form
+
+pub statement-returns-in_ok-body-in-Block-clause-form : goal.statement-returns-in_ok-body-in-Block-clause-form
+statement-returns-in_ok-body-in-Block-clause-form t c = ap (λ (f : KeptIn). f c.args.names.now) c.in_turn.ensures.form ∙ c.in_ok-body-in-Block.ensures.form
+
+pub statement-returns-in_ok-t-in-If-clause-form : goal.statement-returns-in_ok-t-in-If-clause-form
+statement-returns-in_ok-t-in-If-clause-form t c =
+    ap (λ (f : KeptIn). f c.args.names.now) c.in_ok-t-in-If.ensures.form
+    ∙ both c.in_ok-x-in-If.ensures.form (both c.in_ok-one-in-If.ensures.form (ap (λ (f : KeptIn). f c.args.names.now) c.nothing-in-If.ensures.form))
+
+pub statement-returns-in_ok-t-in-IfElse-clause-form : goal.statement-returns-in_ok-t-in-IfElse-clause-form
+statement-returns-in_ok-t-in-IfElse-clause-form t c =
+    ap (λ (f : KeptIn). f c.args.names.now) c.in_ok-t-in-IfElse.ensures.form
+    ∙ both c.in_ok-x-in-IfElse.ensures.form (both c.in_ok-one-in-IfElse.ensures.form c.in_ok-other-in-IfElse.ensures.form)
+
+pub statement-returns-in_ok-t-in-Case-clause-form : goal.statement-returns-in_ok-t-in-Case-clause-form
+statement-returns-in_ok-t-in-Case-clause-form t c = c.in_ok-t-in-Case.ensures.form c.args.names.now c.in_ok-subject-in-Case.ensures.form c.in_ok-arms-in-Case.ensures.form
+
+pub statement-returns-in_ok-t-in-Assign-clause-form : goal.statement-returns-in_ok-t-in-Assign-clause-form
+statement-returns-in_ok-t-in-Assign-clause-form t c = c.in_ok-t-in-Assign.ensures.form
+
+pub each-returns-clause-form : goal.each-returns-clause-form
+each-returns-clause-form t c = c.loop-s.invariant.1
+
+pub opened_arms-returns-clause-form : goal.opened_arms-returns-clause-form
+opened_arms-returns-clause-form t c = c.loop-arm.invariant.1

@@ -1,3 +1,6 @@
+use Rattle.std.proofs.Common.{ap, ◌∙◌}
+use Rattle.v_core.specs.FormedCores.{KeptIn}
+use Rattle.v_statements.proofs.FormLaws.{both, few, kept_of, value_keeps}
 use Rattle.v_statements.proofs.StmtLaws.{assign_is}
 use Rattle.v_statements.proofs.stmts.assignment.Goals as goal
 
@@ -7,6 +10,12 @@ measured-requires c = record { sound = c.requires.target }
 pub opened-requires : goal.opened-requires
 opened-requires c = record { sound = c.requires.value }
 
-pub returns : goal.returns
-returns c =
-    assign_is c.args.names.now _ _ _ _ _ _ _ _ _ c.in_ok-t.ensures c.in_ok-value-2.ensures c.in_ok-target.ensures.means c.in_ok-value.ensures c.max-width.ensures c.in_ok-target.ensures.measured
+pub returns-clause-form : goal.returns-clause-form
+returns-clause-form c =
+    ap (λ (f : KeptIn). f c.args.names.now) c.in_ok-t.ensures.form
+    ∙ both (kept_of _ _ c.in_ok-target.ensures.keeps)
+    (value_keeps c.args.names.now _ _ _ _ c.in_ok-value-2.ensures.form c.max-width.ensures (few _ c.in_ok-target.ensures.word) c.in_ok-value.ensures.form)
+
+pub returns-clause-value : goal.returns-clause-value
+returns-clause-value c =
+    assign_is c.args.names.now _ _ _ _ _ _ _ _ _ c.in_ok-t.ensures.value c.in_ok-value-2.ensures.value c.in_ok-target.ensures.means c.in_ok-value.ensures.value c.max-width.ensures c.in_ok-target.ensures.measured

@@ -3,7 +3,8 @@ use Rattle.std.proofs.Common.{arith, ap}
 use Rattle.v_syntax.proofs.stmt.Target.TheLaws.{the_size}
 use Rattle.v_statements.proofs.Depths.{parts_deeper}
 use Rattle.v_statements.proofs.Turns.{one_of, one_same}
-use Rattle.v_statements.proofs.TargetLaws.{as_target, when_name, when_select, when_part, when_concat, sound_index, sound_bounds, sound_parts, narrow_parts, room, more_bits, joined_made}
+use Rattle.v_statements.proofs.TargetLaws.{as_target, when_name, when_select, when_part, when_concat, sound_index, sound_bounds, sound_parts, some_parts, narrow_parts, room, more_bits, joined_made}
+use Rattle.v_statements.proofs.FormLaws.{next_keeps}
 use Rattle.v_typing.specs.Sound.{is_sound_target}
 use Rattle.v_statements.proofs.targets.+targets.Goals as goal
 
@@ -15,7 +16,10 @@ measured-opened-requires t c = record { sound = sound_index c.args.names.now c.a
 
 pub measured-returns-in_ok-t-in-Select : goal.measured-returns-in_ok-t-in-Select
 measured-returns-in_ok-t-in-Select t c =
-    as_target c.args.names.now _ _ _ (when_select c.args.names.now c.args.sites.now c.args.target.now _ _ _ _ c.in-Select.is c.in_ok-index-in-Select.ensures) c.in_ok-t-in-Select.ensures
+    as_target c.args.names.now _ _ _ (when_select c.args.names.now c.args.sites.now c.args.target.now _ _ _ _ c.in-Select.is c.in_ok-index-in-Select.ensures.value) c.in_ok-t-in-Select.ensures
+
+pub measured-selected-requires : goal.measured-selected-requires
+measured-selected-requires t c = record { index = c.in_ok-index-in-Select.ensures.form }
 
 pub measured-bounded-requires : goal.measured-bounded-requires
 measured-bounded-requires t c = record { sound = sound_bounds c.args.names.now c.args.target.now _ _ c.in-Part.is c.requires.sound }
@@ -30,7 +34,10 @@ measured-joined-requires t c = (
   omega (arith, ap the_size c.in-Concat.is, parts_deeper c.in-Concat.brace c.in-Concat.parts, ap (most the_size) c.as_slice.ensures),
   (
     sound_parts c.args.names.now c.args.target.now _ _ _ c.in-Concat.is c.as_slice.ensures c.requires.sound,
-    narrow_parts c.args.names.now c.args.sites.now c.args.target.now _ _ _ c.in-Concat.is c.as_slice.ensures c.requires.sound,
+    (
+      some_parts c.args.names.now c.args.sites.now c.args.target.now _ _ _ c.in-Concat.is c.as_slice.ensures c.requires.sound,
+      narrow_parts c.args.names.now c.args.sites.now c.args.target.now _ _ _ c.in-Concat.is c.as_slice.ensures c.requires.sound,
+    ),
   ),
 )
 
@@ -52,7 +59,10 @@ pub joined-loop-part-preserved : goal.joined-loop-part-preserved
 joined-loop-part-preserved t c = (
   one_same _ _ c.loop-part.typed _ c.args.parts.now _ _ _ c.loop-part-test.true c.part-item.is c.in_ok-push.ensures.ok c.in_ok-one.ensures.means c.loop-part.invariant.0,
   more_bits c.args.names.now c.args.sites.now c.args.parts.now _ _ _ _ _ _ c.loop-part-test.true c.part-item.is c.in_ok-one.ensures.measured c.wider-width.ensures c.loop-part.invariant.1,
+  next_keeps c.args.names.now c.loop-part.typed _ _ _ _ _ c.in_ok-push.ensures.ok c.wider-width.ensures c.in_ok-one.ensures.keeps c.loop-part.invariant.2,
 )
 
 pub joined-returns : goal.joined-returns
-joined-returns t c = joined_made c.args.names.now c.args.sites.now c.args.parts.now _ _ c.loop-part.typed _ c.loop-part-test.false c.joined-target.ensures c.loop-part.invariant.0 c.loop-part.invariant.1
+joined-returns t c =
+    joined_made c.args.names.now c.args.sites.now c.args.parts.now _ _ c.loop-part.typed _ c.loop-part-test.false c.joined-target.ensures.value c.loop-part.invariant.0 c.loop-part.invariant.1
+    c.joined-target.ensures.form c.loop-part.invariant.2 c.requires.some c.requires.narrow

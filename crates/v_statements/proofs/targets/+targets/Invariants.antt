@@ -1,7 +1,9 @@
-use Rattle.std.proofs.Common.{◌≡◌, ◌+◌, drop, map}
+use Rattle.std.proofs.Common.{◌≡◌, ◌+◌, drop, map, true}
 use Rattle.v_meaning.specs.Targets.{parts_width, target_of}
 use Rattle.v_core.specs.declared.statement.TypedTarget.{TypedTarget}
 use Rattle.v_core.specs.Statements.{target_in}
+use Rattle.v_core.specs.Formed.{has}
+use Rattle.v_core.specs.FormedCores.{target_form, target_parts}
 use Rattle.v_statements.proofs.Turns.{AreSame}
 use Rattle.v_statements.proofs.targets.+targets.Given as goal
 
@@ -9,3 +11,4 @@ abbrev pub invariant-joined-loop-part : goal.invariant-joined-loop-part
 invariant-joined-loop-part l =
     AreSame (λ (t : TypedTarget). target_in t l.names) (target_of l.names l.sites) l.typed l.parts l.part-index
     × (l.width + parts_width (map (target_of l.names l.sites) (drop l.part-index l.parts)) ≡ parts_width (map (target_of l.names l.sites) l.parts))
+    × (has l.width (target_parts (map target_form l.typed) l.names) ≡ true)

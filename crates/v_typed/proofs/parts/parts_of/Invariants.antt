@@ -1,6 +1,7 @@
-use Rattle.std.proofs.Common.{◌≡◌, map, flat_map, take, not}
+use Rattle.std.proofs.Common.{◌≡◌, map, flat_map, take, not, true}
 use Rattle.v_meaning.specs.Modules.{item_assigns, item_combinational, item_clocked}
 use Rattle.v_core.specs.Cores.{assign_in, acts_where}
+use Rattle.v_typed.specs.Forms.{are_formed_assigns, are_formed_processes}
 use Rattle.v_typed.proofs.parts.parts_of.Given as goal
 
 abbrev pub invariant-loop-item : goal.invariant-loop-item
@@ -8,3 +9,5 @@ invariant-loop-item l =
     (map (assign_in l.names) l.parts.assigns ≡ flat_map (item_assigns l.names l.sites) (take l.item-index l.items))
     × (acts_where (λ p. not p.clocked) l.names l.parts.processes ≡ flat_map (item_combinational l.names l.sites) (take l.item-index l.items))
     × (acts_where (λ p. p.clocked) l.names l.parts.processes ≡ flat_map (item_clocked l.names l.sites) (take l.item-index l.items))
+    × (are_formed_assigns l.names l.parts.assigns ≡ true)
+    × (are_formed_processes l.names l.parts.processes ≡ true)

@@ -18,7 +18,10 @@ part-requires-clause-descends c = (part_bounds (entry_of c.args.names.now c.args
 pub part-requires-clause-within : goal.part-requires-clause-within
 part-requires-clause-within c = (part_bounds (entry_of c.args.names.now c.args.ident.now.name) _ _ _ _ c.in_ok-m.ensures c.in_ok-l.ensures c.requires.bounds).within
 
-pub returns : goal.returns
-returns c =
-    c.part.ensures
+pub returns-clause-value : goal.returns-clause-value
+returns-clause-value c =
+    c.part.ensures.value
     ∙ (λ i. read_part (entry_of c.args.names.now c.args.ident.now.name) (value_of c.args.names.now c.args.msb.now _ c.in_ok-m.ensures i) (value_of c.args.names.now c.args.lsb.now _ c.in_ok-l.ensures i))
+
+pub returns-clause-form : goal.returns-clause-form
+returns-clause-form c = c.part.ensures.form

@@ -7,52 +7,61 @@ use Rattle.v_syntax.specs.declared.expr.Expr.{Expr}
 use Rattle.v_syntax.specs.declared.expr.BinaryOperator.{BinaryOperator}
 use Rattle.v_syntax.proofs.expr.Expr.TheLaws.{the_size}
 use Rattle.v_typing.proofs.Variants.{when_number, when_name, when_select, when_unary, when_cast, when_conditional, when_chain, when_concat, when_part, when_replicate}
-use Rattle.v_typing.proofs.SoundLaws.{sound_number, sound_select, sound_unary, sound_cast, sound_condition, sound_then, sound_otherwise, sound_first, sound_links, sound_parts, sound_narrow, sound_count, sound_room, sound_inner, sound_inner_narrow, sound_part}
+use Rattle.v_typing.proofs.SoundLaws.{sound_number, sound_select, sound_unary, sound_cast, sound_condition, sound_then, sound_otherwise, sound_first, sound_links, sound_parts, sound_narrow, sound_count, sound_room, sound_inner, sound_inner_narrow, sound_part, sound_some, sound_inner_some}
 use Rattle.v_core.specs.Values.{Value}
 use Rattle.v_typing.proofs.Depths.{link_size, select_deeper, unary_deeper, cast_deeper, condition_deeper, then_deeper, otherwise_deeper, first_deeper, links_deeper, parts_deeper, inner_deeper}
 use Rattle.v_typing.proofs.Turns.{this_passes, others_pass, chained_next, joined_next, room, joined_done}
 use Rattle.v_typing.proofs.OperatorLaws.{Meaning}
+use Rattle.v_typing.proofs.KeepLaws.{joined_word, concat_has, next_has}
 use Rattle.v_typing.proofs.opening.+opening.Goals as goal
 
 pub opened-literal-requires : goal.opened-literal-requires
 opened-literal-requires t c = sound_number c.args.names.now c.args.x.now _ c.in-Number.is c.requires.sound
 
-pub opened-returns-in-Number : goal.opened-returns-in-Number
-opened-returns-in-Number t c = ap (λ (f : Meaning). f c.args.names.now) c.number.ensures ∙ ap (λ (l : Literal). number_sense l (open_at c.args.sites.now c.in-Number.n.at)) c.literal.ensures.value ∙ when_number c.args.names.now c.args.sites.now c.args.x.now _ c.in-Number.is
+pub opened-returns-in-Number-clause-value : goal.opened-returns-in-Number-clause-value
+opened-returns-in-Number-clause-value t c = ap (λ (f : Meaning). f c.args.names.now) c.number.ensures.value ∙ ap (λ (l : Literal). number_sense l (open_at c.args.sites.now c.in-Number.n.at)) c.literal.ensures.value ∙ when_number c.args.names.now c.args.sites.now c.args.x.now _ c.in-Number.is
 
-pub opened-returns-in-Name : goal.opened-returns-in-Name
-opened-returns-in-Name t c = c.name.ensures ∙ when_name c.args.names.now c.args.sites.now c.args.x.now _ c.in-Name.is
+pub opened-returns-in-Name-clause-value : goal.opened-returns-in-Name-clause-value
+opened-returns-in-Name-clause-value t c = c.name.ensures.value ∙ when_name c.args.names.now c.args.sites.now c.args.x.now _ c.in-Name.is
 
-pub opened-returns-in_ok-o-in-Select : goal.opened-returns-in_ok-o-in-Select
-opened-returns-in_ok-o-in-Select t c = c.in_ok-o-in-Select.ensures ∙ when_select c.args.names.now c.args.sites.now c.args.x.now _ _ _ _ _ c.in-Select.is c.get.ensures c.in_ok-index-in-Select.ensures
+pub opened-returns-in_ok-o-in-Select-clause-value : goal.opened-returns-in_ok-o-in-Select-clause-value
+opened-returns-in_ok-o-in-Select-clause-value t c = c.in_ok-o-in-Select.ensures.value ∙ when_select c.args.names.now c.args.sites.now c.args.x.now _ _ _ _ _ c.in-Select.is c.get.ensures c.in_ok-index-in-Select.ensures.value
 
-pub opened-returns-in_ok-o-in-Unary : goal.opened-returns-in_ok-o-in-Unary
-opened-returns-in_ok-o-in-Unary t c = ap (λ (f : Meaning). f c.args.names.now) c.in_ok-o-in-Unary.ensures ∙ when_unary c.args.names.now c.args.sites.now c.args.x.now _ _ _ _ c.in-Unary.is c.get-in-Unary.ensures c.in_ok-x-in-Unary.ensures
+pub opened-returns-in_ok-o-in-Unary-clause-value : goal.opened-returns-in_ok-o-in-Unary-clause-value
+opened-returns-in_ok-o-in-Unary-clause-value t c = ap (λ (f : Meaning). f c.args.names.now) c.in_ok-o-in-Unary.ensures.value ∙ when_unary c.args.names.now c.args.sites.now c.args.x.now _ _ _ _ c.in-Unary.is c.get-in-Unary.ensures c.in_ok-x-in-Unary.ensures.value
 
-pub opened-returns-in_ok-o-in-Chain : goal.opened-returns-in_ok-o-in-Chain
-opened-returns-in_ok-o-in-Chain t c = c.in_ok-o-in-Chain.ensures ∙ when_chain c.args.names.now c.args.sites.now c.args.x.now _ _ _ _ _ c.in-Chain.is c.get-in-Chain.ensures c.as_slice.ensures c.in_ok-first-in-Chain.ensures
+pub opened-returns-in_ok-o-in-Chain-clause-value : goal.opened-returns-in_ok-o-in-Chain-clause-value
+opened-returns-in_ok-o-in-Chain-clause-value t c = c.in_ok-o-in-Chain.ensures.value ∙ when_chain c.args.names.now c.args.sites.now c.args.x.now _ _ _ _ _ c.in-Chain.is c.get-in-Chain.ensures c.as_slice.ensures c.in_ok-first-in-Chain.ensures.value
 
-pub opened-returns-in_ok-o-in-Conditional : goal.opened-returns-in_ok-o-in-Conditional
-opened-returns-in_ok-o-in-Conditional t c = ap (λ (f : Meaning). f c.args.names.now) c.in_ok-o-in-Conditional.ensures ∙ when_conditional c.args.names.now c.args.sites.now c.args.x.now _ _ _ _ _ _ _ _ _ c.in-Conditional.is c.get-in-Conditional.ensures c.get-in-Conditional-2.ensures c.get-in-Conditional-3.ensures c.in_ok-c-in-Conditional.ensures c.in_ok-x-in-Conditional.ensures c.in_ok-y-in-Conditional.ensures
+pub opened-returns-in_ok-o-in-Conditional-clause-value : goal.opened-returns-in_ok-o-in-Conditional-clause-value
+opened-returns-in_ok-o-in-Conditional-clause-value t c = ap (λ (f : Meaning). f c.args.names.now) c.in_ok-o-in-Conditional.ensures.value ∙ when_conditional c.args.names.now c.args.sites.now c.args.x.now _ _ _ _ _ _ _ _ _ c.in-Conditional.is c.get-in-Conditional.ensures c.get-in-Conditional-2.ensures c.get-in-Conditional-3.ensures c.in_ok-c-in-Conditional.ensures.value c.in_ok-x-in-Conditional.ensures.value c.in_ok-y-in-Conditional.ensures.value
 
-pub opened-returns-in_ok-o-in-Concat : goal.opened-returns-in_ok-o-in-Concat
-opened-returns-in_ok-o-in-Concat t c = c.in_ok-o-in-Concat.ensures ∙ when_concat c.args.names.now c.args.sites.now c.args.x.now _ _ _ c.in-Concat.is c.as_slice-in-Concat.ensures
+pub opened-returns-in_ok-o-in-Concat-clause-value : goal.opened-returns-in_ok-o-in-Concat-clause-value
+opened-returns-in_ok-o-in-Concat-clause-value t c = c.in_ok-o-in-Concat.ensures.value ∙ when_concat c.args.names.now c.args.sites.now c.args.x.now _ _ _ c.in-Concat.is c.as_slice-in-Concat.ensures
 
-pub opened-returns-in_ok-o-in-Cast : goal.opened-returns-in_ok-o-in-Cast
-opened-returns-in_ok-o-in-Cast t c = ap (λ (f : Meaning). f c.args.names.now) c.in_ok-o-in-Cast.ensures ∙ when_cast c.args.names.now c.args.sites.now c.args.x.now _ _ _ _ c.in-Cast.is c.get-in-Cast.ensures c.in_ok-x-in-Cast.ensures
+pub opened-returns-in_ok-o-in-Cast-clause-value : goal.opened-returns-in_ok-o-in-Cast-clause-value
+opened-returns-in_ok-o-in-Cast-clause-value t c = ap (λ (f : Meaning). f c.args.names.now) c.in_ok-o-in-Cast.ensures.value ∙ when_cast c.args.names.now c.args.sites.now c.args.x.now _ _ _ _ c.in-Cast.is c.get-in-Cast.ensures c.in_ok-x-in-Cast.ensures.value
 
 pub chained-loop-operator-preserved : goal.chained-loop-operator-preserved
-chained-loop-operator-preserved t c = (chained_next c.args.names.now c.args.sites.now _ _ _ _ c.args.links.now _ _ c.loop-operator-test.true c.loop-operator-item.is c.in_ok-y.ensures (ap (λ (f : Meaning). f c.args.names.now) c.in_ok-all.ensures) c.loop-operator.invariant.0, others_pass (λ (link : BinaryOperator × Expr). is_sound c.args.names.now link.1) c.args.links.now _ _ c.loop-operator-test.true c.loop-operator-item.is c.loop-operator.invariant.1)
+chained-loop-operator-preserved t c = (
+  chained_next c.args.names.now c.args.sites.now _ _ _ _ c.args.links.now _ _ c.loop-operator-test.true c.loop-operator-item.is c.in_ok-y.ensures.value (ap (λ (f : Meaning). f c.args.names.now) c.in_ok-all.ensures.value) c.loop-operator.invariant.0,
+  others_pass (λ (link : BinaryOperator × Expr). is_sound c.args.names.now link.1) c.args.links.now _ _ c.loop-operator-test.true c.loop-operator-item.is c.loop-operator.invariant.1,
+  λ h. c.in_ok-all.ensures.form c.args.names.now (c.loop-operator.invariant.2 h) c.in_ok-y.ensures.form,
+)
 
 pub joined-wider-width-requires : goal.joined-wider-width-requires
-joined-wider-width-requires t c = room c.args.names.now c.args.sites.now c.args.parts.now _ _ _ c.loop-x.typed _ _ c.loop-x-test.true c.x-item.is c.in_ok-one.ensures c.loop-x.invariant.0 c.requires.narrow
+joined-wider-width-requires t c = room c.args.names.now c.args.sites.now c.args.parts.now _ _ _ c.loop-x.typed _ _ c.loop-x-test.true c.x-item.is c.in_ok-one.ensures.value c.loop-x.invariant.0 c.requires.narrow
 
 pub joined-loop-x-preserved : goal.joined-loop-x-preserved
 joined-loop-x-preserved t c =
-    rw c.wider-width.ensures (joined_next c.args.names.now c.args.sites.now c.args.parts.now _ _ _ c.loop-x.typed _ _ _ _ c.loop-x-test.true c.x-item.is c.in_ok-one.ensures c.in_ok-push.ensures.ok (ap (λ (f : Value). f c.args.names.now) c.in_ok-t.ensures) c.loop-x.invariant.0, others_pass (is_sound c.args.names.now) c.args.parts.now _ _ c.loop-x-test.true c.x-item.is c.loop-x.invariant.1)
+    rw c.wider-width.ensures (
+      joined_next c.args.names.now c.args.sites.now c.args.parts.now _ _ _ c.loop-x.typed _ _ _ _ c.loop-x-test.true c.x-item.is c.in_ok-one.ensures.value c.in_ok-push.ensures.ok (ap (λ (f : Value). f c.args.names.now) c.in_ok-t.ensures.value) c.loop-x.invariant.0,
+      others_pass (is_sound c.args.names.now) c.args.parts.now _ _ c.loop-x-test.true c.x-item.is c.loop-x.invariant.1,
+      next_has c.args.names.now c.loop-x.typed _ _ c.in_ok-one.one _ c.in_ok-push.ensures.ok c.in_ok-one.ensures.form (c.in_ok-t.ensures.form c.args.names.now) c.loop-x.invariant.2,
+    )
 
-pub joined-returns : goal.joined-returns
-joined-returns t c = joined_done c.args.names.now c.args.sites.now c.args.parts.now _ _ c.loop-x.typed _ _ _ c.loop-x-test.false c.leaf.ensures c.side_by_side.ensures c.loop-x.invariant.0
+pub joined-returns-clause-value : goal.joined-returns-clause-value
+joined-returns-clause-value t c = joined_done c.args.names.now c.args.sites.now c.args.parts.now _ _ c.loop-x.typed _ _ _ c.loop-x-test.false c.leaf.ensures.value c.side_by_side.ensures.value c.loop-x.invariant.0
 
 pub opened-opened-requires : goal.opened-opened-requires
 opened-opened-requires t c = (omega (arith, ap the_size c.in-Select.is, select_deeper c.in-Select.name c.in-Select.bracket c.in-Select.index, ap the_size c.get.ensures), sound_select c.args.names.now c.args.x.now _ _ _ _ c.in-Select.is c.get.ensures c.requires.sound)
@@ -90,8 +99,8 @@ joined-opened-requires t c = (omega (arith, at_most the_size c.args.parts.now c.
 pub opened-part_between-requires : goal.opened-part_between-requires
 opened-part_between-requires t c = record { bounds = sound_part c.args.names.now c.args.x.now _ _ _ _ _ _ _ _ c.in-Part.is c.get-in-Part.ensures c.get-in-Part-2.ensures c.requires.sound }
 
-pub opened-returns-in_ok-o-in-Part : goal.opened-returns-in_ok-o-in-Part
-opened-returns-in_ok-o-in-Part t c = c.in_ok-o-in-Part.ensures ∙ when_part c.args.names.now c.args.sites.now c.args.x.now _ _ _ _ _ _ _ _ c.in-Part.is c.get-in-Part.ensures c.get-in-Part-2.ensures
+pub opened-returns-in_ok-o-in-Part-clause-value : goal.opened-returns-in_ok-o-in-Part-clause-value
+opened-returns-in_ok-o-in-Part-clause-value t c = c.in_ok-o-in-Part.ensures.value ∙ when_part c.args.names.now c.args.sites.now c.args.x.now _ _ _ _ _ _ _ _ c.in-Part.is c.get-in-Part.ensures c.get-in-Part-2.ensures
 
 pub opened-joined-requires-in-Replicate : goal.opened-joined-requires-in-Replicate
 opened-joined-requires-in-Replicate t c = (
@@ -105,9 +114,55 @@ opened-joined-requires-in-Replicate t c = (
 pub opened-repeated-requires : goal.opened-repeated-requires
 opened-repeated-requires t c = record {
   counted = sound_count c.args.names.now c.args.x.now _ _ _ _ _ _ c.in-Replicate.is c.get-in-Replicate.ensures c.requires.sound;
-  room = sound_room c.args.names.now c.args.sites.now c.args.x.now _ _ _ _ _ _ _ _ c.in-Replicate.is c.get-in-Replicate.ensures c.as_slice-in-Replicate.ensures c.in_ok-word-in-Replicate.ensures c.requires.sound;
+  room = sound_room c.args.names.now c.args.sites.now c.args.x.now _ _ _ _ _ _ _ _ c.in-Replicate.is c.get-in-Replicate.ensures c.as_slice-in-Replicate.ensures c.in_ok-word-in-Replicate.ensures.value c.requires.sound;
 }
 
-pub opened-returns-in_ok-o-in-Replicate : goal.opened-returns-in_ok-o-in-Replicate
-opened-returns-in_ok-o-in-Replicate t c =
-    c.in_ok-o-in-Replicate.ensures ∙ when_replicate c.args.names.now c.args.sites.now c.args.x.now _ _ _ _ _ _ _ _ c.in-Replicate.is c.get-in-Replicate.ensures c.as_slice-in-Replicate.ensures c.in_ok-word-in-Replicate.ensures
+pub opened-returns-in_ok-o-in-Replicate-clause-value : goal.opened-returns-in_ok-o-in-Replicate-clause-value
+opened-returns-in_ok-o-in-Replicate-clause-value t c =
+    c.in_ok-o-in-Replicate.ensures.value ∙ when_replicate c.args.names.now c.args.sites.now c.args.x.now _ _ _ _ _ _ _ _ c.in-Replicate.is c.get-in-Replicate.ensures c.as_slice-in-Replicate.ensures c.in_ok-word-in-Replicate.ensures.value
+
+-- ---- widths
+
+pub opened-returns-in-Number-clause-form : goal.opened-returns-in-Number-clause-form
+opened-returns-in-Number-clause-form t c = c.number.ensures.form c.args.names.now c.literal.ensures.fit
+
+pub opened-returns-in-Name-clause-form : goal.opened-returns-in-Name-clause-form
+opened-returns-in-Name-clause-form t c = c.name.ensures.form
+
+pub opened-returns-in_ok-o-in-Select-clause-form : goal.opened-returns-in_ok-o-in-Select-clause-form
+opened-returns-in_ok-o-in-Select-clause-form t c = c.in_ok-o-in-Select.ensures.form c.in_ok-index-in-Select.ensures.form
+
+pub opened-returns-in_ok-o-in-Unary-clause-form : goal.opened-returns-in_ok-o-in-Unary-clause-form
+opened-returns-in_ok-o-in-Unary-clause-form t c = c.in_ok-o-in-Unary.ensures.form c.args.names.now c.in_ok-x-in-Unary.ensures.form
+
+pub opened-returns-in_ok-o-in-Chain-clause-form : goal.opened-returns-in_ok-o-in-Chain-clause-form
+opened-returns-in_ok-o-in-Chain-clause-form t c = c.in_ok-o-in-Chain.ensures.form c.in_ok-first-in-Chain.ensures.form
+
+pub opened-returns-in_ok-o-in-Conditional-clause-form : goal.opened-returns-in_ok-o-in-Conditional-clause-form
+opened-returns-in_ok-o-in-Conditional-clause-form t c =
+    c.in_ok-o-in-Conditional.ensures.form c.args.names.now c.in_ok-c-in-Conditional.ensures.form c.in_ok-x-in-Conditional.ensures.form c.in_ok-y-in-Conditional.ensures.form
+
+pub opened-returns-in_ok-o-in-Concat-clause-form : goal.opened-returns-in_ok-o-in-Concat-clause-form
+opened-returns-in_ok-o-in-Concat-clause-form t c =
+    c.in_ok-o-in-Concat.ensures.form
+    (sound_some c.args.names.now c.args.sites.now c.args.x.now _ _ _ _ c.in-Concat.is c.as_slice-in-Concat.ensures c.in_ok-o-in-Concat.ensures.value c.requires.sound)
+
+pub opened-returns-in_ok-o-in-Cast-clause-form : goal.opened-returns-in_ok-o-in-Cast-clause-form
+opened-returns-in_ok-o-in-Cast-clause-form t c = c.in_ok-o-in-Cast.ensures.form c.args.names.now c.in_ok-x-in-Cast.ensures.form
+
+pub opened-returns-in_ok-o-in-Part-clause-form : goal.opened-returns-in_ok-o-in-Part-clause-form
+opened-returns-in_ok-o-in-Part-clause-form t c = c.in_ok-o-in-Part.ensures.form
+
+pub opened-returns-in_ok-o-in-Replicate-clause-form : goal.opened-returns-in_ok-o-in-Replicate-clause-form
+opened-returns-in_ok-o-in-Replicate-clause-form t c =
+    c.in_ok-o-in-Replicate.ensures.form
+    (c.in_ok-word-in-Replicate.ensures.form
+    (sound_inner_some c.args.names.now c.args.sites.now c.args.x.now _ _ _ _ _ _ _ c.in-Replicate.is c.as_slice-in-Replicate.ensures c.in_ok-word-in-Replicate.ensures.value c.requires.sound))
+
+pub joined-returns-clause-form : goal.joined-returns-clause-form
+joined-returns-clause-form t c some =
+    let word =
+    joined_word c.args.names.now c.leaf.result _ _ _ c.leaf.ensures.value
+    (joined_done c.args.names.now c.args.sites.now c.args.parts.now _ _ c.loop-x.typed _ _ _ c.loop-x-test.false c.leaf.ensures.value c.side_by_side.ensures.value c.loop-x.invariant.0)
+    c.requires.narrow some in
+    c.leaf.ensures.form c.args.names.now word (concat_has c.args.names.now c.loop-x.typed _ _ c.side_by_side.ensures.form word c.loop-x.invariant.2)

@@ -1,0 +1,41 @@
+-- Assigns and processes that keep to their widths.
+use Rattle.std.proofs.Common.{◌≡◌, ◌≤◌, ap, ◌∙◌, refl, ℕ, List, [], ◌∷◌, ◌++◌, max, Bool, true, false, arith}
+use Rattle.std.specs.Prelude.{◌&&◌, ◌==◌, nat_le}
+use Rattle.std.specs.List.{list_all}
+use Rattle.std.proofs.lemmas.Bool.{leb-true}
+use Rattle.v_meaning.specs.declared.names.Entry.{Entry}
+use Rattle.v_core.specs.declared.typed.Typed.{Typed}
+use Rattle.v_core.specs.declared.open.Open.{Open}
+use Rattle.v_core.specs.declared.modules.TypedAssign.{TypedAssign}
+use Rattle.v_core.specs.declared.modules.TypedProcess.{TypedProcess}
+use Rattle.v_core.specs.Formed.{FormedIn, formed, has}
+use Rattle.v_core.specs.FormedCores.{is_formed_stmt}
+use Rattle.v_core.specs.OpenForms.{OpenFormed, body_form}
+use Rattle.v_typed.specs.Forms.{are_formed_assigns, are_formed_processes}
+
+both : {a b : Bool} → a ≡ true → b ≡ true → (a && b) ≡ true
+both p q = λ i. p i && q i
+
+second : (a b : Bool) → (a && b) ≡ true → b ≡ true
+second true b h = h
+second false b h = absurd (cc h)
+
+-- a right side at the greater one of both widths
+pub side_keeps : (names : List Entry) (side : Open) (t : Typed) (width wide : ℕ) → formed t ≡ body_form side.body wide side.signed → wide ≡ max width side.width →
+    OpenFormed side names → width ≤ 128 → (formed t names).kept ≡ true
+side_keeps names side t width wide p is h few =
+    let word : side.width ≤ 128 = leb-true side.width 128 (second (nat_le 1 side.width) (nat_le side.width 128) h.word) in
+    second ((formed t names).width == wide) (formed t names).kept
+    (ap (λ (f : FormedIn). has wide (f names)) p ∙ h.at wide side.signed (omega (arith, is)) (omega (arith, is, few, word)))
+
+push : {X : Type 0} (test : X → Bool) (old : List X) (x : X) → test x ≡ true → list_all test (old ++ x ∷ []) ≡ list_all test old
+push test [] x h = both h refl
+push test (y ∷ ys) x h = ap (λ (b : Bool). test y && b) (push test ys x h)
+
+pub assign_pushed : (names : List Entry) (old new : List TypedAssign) (a : TypedAssign) → new ≡ old ++ a ∷ [] → (formed a.value names).kept ≡ true →
+    are_formed_assigns names new ≡ are_formed_assigns names old
+assign_pushed names old new a p h = ap (are_formed_assigns names) p ∙ push (λ (a : TypedAssign). (formed a.value names).kept) old a h
+
+pub process_pushed : (names : List Entry) (old new : List TypedProcess) (p : TypedProcess) → new ≡ old ++ p ∷ [] → is_formed_stmt p.body names ≡ true →
+    are_formed_processes names new ≡ are_formed_processes names old
+process_pushed names old new p q h = ap (are_formed_processes names) q ∙ push (λ (p : TypedProcess). is_formed_stmt p.body names) old p h

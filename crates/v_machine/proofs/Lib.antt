@@ -1,0 +1,5 @@
+pub mod Lists
+pub mod Finishing
+pub mod Layers
+pub mod StmtLaws
+pub mod Depths

@@ -1,8 +1,7 @@
 -- Of all nets the acts of a statement look only at those that it reads.
-use Rattle.std.proofs.Common.{◌≡◌, ℕ, List, [], ◌∷◌, ◌++◌, map, flat_map, Bool, true, false, Option, None, refl, sym, ap, subst, ◌∙◌}
+use Rattle.std.proofs.Common.{◌≡◌, ℕ, List, [], ◌∷◌, ◌++◌, map, flat_map, true, Option, None, refl, sym, ap, subst, ◌∙◌}
 use Rattle.std.specs.Prelude.{⊤, ◌/◌, ◌%◌, ◌^◌, ◌==◌, ◌||◌, if◌then◌else◌}
 use Rattle.std.specs.List.{list_any}
-use Rattle.std.proofs.lemmas.List.Concat.{flat_map-append}
 use Rattle.v_syntax.specs.declared.expr.Expr.{Expr}
 use Rattle.v_syntax.specs.declared.stmt.Target.{Target}
 use Rattle.v_syntax.specs.declared.stmt.Target.TheOpen.{Target-F}
@@ -11,13 +10,7 @@ use Rattle.v_syntax.specs.declared.stmt.Target.TheFolds as f
 use Rattle.v_syntax.specs.declared.stmt.AssignKind.{AssignKind}
 use Rattle.v_syntax.specs.declared.stmt.AssignKind.TheVariants as k
 use Rattle.v_syntax.specs.declared.stmt.CaseKind.{CaseKind}
-use Rattle.v_syntax.specs.declared.stmt.Label.{Label}
-use Rattle.v_syntax.specs.declared.stmt.Label.TheVariants as l
-use Rattle.v_syntax.specs.declared.stmt.Arm.{Arm}
 use Rattle.v_syntax.specs.declared.stmt.Stmt.{Stmt}
-use Rattle.v_syntax.specs.declared.stmt.Stmt.TheOpen.{Stmt-F, Arm-F}
-use Rattle.v_syntax.specs.declared.stmt.Stmt.TheOpen as s
-use Rattle.v_syntax.specs.declared.stmt.Stmt.TheFolds.{map-Stmt, fold-Arm, fold-roll-Stmt, fold-roll-Arm, ind-Stmt}
 use Rattle.v_meaning.specs.Views.{View, Write}
 use Rattle.v_meaning.specs.Senses.{Sense, own, assigned, index_of}
 use Rattle.v_meaning.specs.declared.names.Kind.{Kind}
@@ -26,19 +19,20 @@ use Rattle.v_meaning.specs.declared.names.Entry.{Entry}
 use Rattle.v_meaning.specs.Names.{entry_of, within}
 use Rattle.v_meaning.specs.Expressions.{sense_of}
 use Rattle.v_meaning.specs.Targets.{TargetSense, place_of, write_bit, write_word, selected_target, parts_width, parts_writes, target_step, target_of}
-use Rattle.v_meaning.specs.Acts.{Acts, End, Branch, Blocking, Nonblocking, followed, sequence}
-use Rattle.v_meaning.specs.Statements.{ArmActs, label_items, all_items, Comparison, comparison_of, ignored, agree, value_at, is_met, default_or, default_of, taken, labels_of, case_acts, writes_of, assign_acts, if_acts, stmt_step, arm_step, acts_of}
-use Rattle.v_meaning.specs.Uses.{Access, Read, Write as WriteAccess, reads_of, TargetUse, target_use_step, target_use, StmtUse, sequence_use, ArmUse, arm_labels, case_branches, case_reads, use_step, use_of}
+use Rattle.v_meaning.specs.Acts.{Acts, End, Branch, Blocking, Nonblocking, followed}
+use Rattle.v_meaning.specs.Statements.{ArmActs, label_items, Comparison, comparison_of, ignored, agree, value_at, is_met, default_of, taken, labels_of, case_acts, writes_of, assign_acts, if_acts, acts_of}
+use Rattle.v_meaning.specs.Uses.{Access, Read, Write as WriteAccess, reads_of, TargetUse, target_use_step, target_use, use_of}
 use Rattle.v_meaning.specs.ProcessRules.{reads_in}
 use Rattle.v_depends.specs.Nodes.{is_in}
 use Rattle.v_order.specs.Reads.{nets_of_kind, nets_among, nets_read_by}
 use Rattle.v_order.specs.Settling.{AgreeOn, LooksOnlyAt, ActsLookOnlyAt}
 use Rattle.v_order.proofs.Settled.{Each}
+use Rattle.v_order.proofs.Statements.{ArmHas, if_has, taken_has, default_has, Passes, acts_have}
 use Rattle.v_order.proofs.Frames.{each_left, each_right, in_left, in_right, seen, frames, agree_kind, ReadsSame}
 
 -- ---- acts
 
-looks_followed : (nets : List ℕ) (a b : Acts) → ActsLookOnlyAt nets a → ActsLookOnlyAt nets b → ActsLookOnlyAt nets (followed a b)
+pub looks_followed : (nets : List ℕ) (a b : Acts) → ActsLookOnlyAt nets a → ActsLookOnlyAt nets b → ActsLookOnlyAt nets (followed a b)
 looks_followed nets End b h k = k
 looks_followed nets (Branch g rest) b h k = (h.0, h.1, looks_followed nets rest b h.2 k)
 looks_followed nets (Blocking g rest) b h k = (h.0, looks_followed nets rest b h.1 k)
@@ -148,7 +142,7 @@ module _ (names : List Entry) (sites : List ℕ) (nets : List ℕ) where
       λ i. p i || q i
 
   abbrev ArmInside : ArmActs → Type 0
-  ArmInside a = ItemsInside (label_items a.label) × ActsLookOnlyAt nets a.acts
+  ArmInside = ArmHas names sites (Inside names nets) (ActsLookOnlyAt nets)
 
   same_taken : (kind : CaseKind) (subject : Expr) (by : Comparison) (arms : List ArmActs) (otherwise : Acts) → AllInside (reads_of names subject) → Each ArmInside arms → (v w : View) → AgreeOn nets v w →
       taken (is_met names sites kind subject by v) arms otherwise ≡ taken (is_met names sites kind subject by w) arms otherwise
@@ -158,27 +152,12 @@ module _ (names : List Entry) (sites : List ℕ) (nets : List ℕ) where
       let q = same_taken kind subject by arms otherwise h k.1 v w a in
       λ i. if p i then x.acts else q i
 
-  looks_if : (b : Bool) (x y : Acts) → ActsLookOnlyAt nets x → ActsLookOnlyAt nets y → ActsLookOnlyAt nets (if b then x else y)
-  looks_if true x y h k = h
-  looks_if false x y h k = k
-
-  looks_taken : (met : Expr → Bool) (arms : List ArmActs) (otherwise : Acts) → Each ArmInside arms → ActsLookOnlyAt nets otherwise → ActsLookOnlyAt nets (taken met arms otherwise)
-  looks_taken met [] otherwise h k = k
-  looks_taken met (x ∷ arms) otherwise h k = looks_if (list_any met (label_items x.label)) x.acts (taken met arms otherwise) h.0.1 (looks_taken met arms otherwise h.1 k)
-
-  default_case : (label : Label) (x y : Acts) → ActsLookOnlyAt nets x → ActsLookOnlyAt nets y → ActsLookOnlyAt nets (default_or label x y)
-  default_case (l.Items xs) x y h k = k
-  default_case (l.Default at) x y h k = h
-
-  looks_default : (arms : List ArmActs) → Each ArmInside arms → ActsLookOnlyAt nets (default_of arms)
-  looks_default [] h = tt
-  looks_default (x ∷ arms) h = default_case x.label x.acts (default_of arms) h.0.1 (looks_default arms h.1)
-
   looks_case : (kind : CaseKind) (subject : Expr) (arms : List ArmActs) → AllInside (reads_of names subject) → Each ArmInside arms → ActsLookOnlyAt nets (case_acts names sites kind subject arms)
   looks_case kind subject arms h k =
       let by : Comparison = comparison_of names sites subject (labels_of arms) in (
         λ v w a. same_taken kind subject by arms (default_of arms) h k v w a,
-        λ v. looks_taken (is_met names sites kind subject by v) arms (default_of arms) k (looks_default arms k),
+        λ v. taken_has names sites (Inside names nets) (ActsLookOnlyAt nets) (is_met names sites kind subject by v) arms (default_of arms) k
+            (default_has names sites (Inside names nets) (ActsLookOnlyAt nets) tt arms k),
         tt,
       )
 
@@ -187,7 +166,7 @@ module _ (names : List Entry) (sites : List ℕ) (nets : List ℕ) where
   looks_choice : (x : Expr) (one other : Acts) → AllInside (reads_of names x) → ActsLookOnlyAt nets one → ActsLookOnlyAt nets other → ActsLookOnlyAt nets (if_acts (sense_of names sites x) one other)
   looks_choice x one other h p q = (
     λ v w a. ap (λ (s : Sense). if own s v == 0 then other else one) (same_expr x h v w a),
-    λ v. looks_if (own (sense_of names sites x) v == 0) other one q p,
+    λ v. if_has names sites (Inside names nets) (ActsLookOnlyAt nets) (own (sense_of names sites x) v == 0) other one q p,
     tt,
   )
 
@@ -202,108 +181,17 @@ module _ (names : List Entry) (sites : List ℕ) (nets : List ℕ) where
       let q = same_expr value k v w a in
       λ i. (p i).writes v (assigned (p i).width (q i) v)
 
-  abbrev StmtLooks : Stmt → Type 0
-  StmtLooks x = AllInside (use_of names x).all → ActsLookOnlyAt nets (acts_of names sites x)
-
-  abbrev mark_arm : Arm-F StmtUse ArmUse → ArmUse
-  mark_arm arm = record { label = arm.label; body = arm.body }
-
-  abbrev arm_use : Arm → ArmUse
-  arm_use = fold-Arm StmtUse ArmUse (use_step names) mark_arm
-
-  abbrev arm_acts : Arm → ArmActs
-  arm_acts = fold-Arm Acts ArmActs (stmt_step names sites) arm_step
-
-  abbrev ArmLooks : Arm → Type 0
-  ArmLooks a = StmtLooks a.body
-
-  abbrev HeldStmt : Type 0
-  HeldStmt = (x : Stmt) × StmtLooks x
-
-  abbrev HeldArm : Type 0
-  HeldArm = (a : Arm) × ArmLooks a
-
-  abbrev plain_stmt : HeldStmt → Stmt
-  plain_stmt x = x.0
-
-  abbrev plain_arm : HeldArm → Arm
-  plain_arm a = a.0
-
-  use_arm : (a : Arm) → arm_use a ≡ record { label = a.label; body = use_of names a.body }
-  use_arm a = fold-roll-Arm StmtUse ArmUse (use_step names) mark_arm (record { label = a.label; body = a.body })
-
-  acts_arm : (a : Arm) → arm_acts a ≡ record { label = a.label; acts = acts_of names sites a.body }
-  acts_arm a = fold-roll-Arm Acts ArmActs (stmt_step names sites) arm_step (record { label = a.label; body = a.body })
-
-  looks_body : (xs : List HeldStmt) → AllInside (sequence_use (map (use_of names) (map plain_stmt xs))).all → ActsLookOnlyAt nets (sequence (map (acts_of names sites) (map plain_stmt xs)))
-  looks_body [] h = tt
-  looks_body (x ∷ xs) h =
-      let own : List Access = (use_of names x.0).all in
-      let more : List Access = (sequence_use (map (use_of names) (map plain_stmt xs))).all in
-      looks_followed nets (acts_of names sites x.0) (sequence (map (acts_of names sites) (map plain_stmt xs))) (x.1 (each_left (Inside names nets) own more h)) (looks_body xs (each_right (Inside names nets) own more h))
-
-  -- the arms, where the items are read before the bodies
-  looks_arms : (arms : List HeldArm) → ItemsInside (all_items (arm_labels (map arm_use (map plain_arm arms)))) →
-      AllInside (flat_map (λ (x : StmtUse). x.all) (map (λ (a : ArmUse). a.body) (map arm_use (map plain_arm arms)))) → Each ArmInside (map arm_acts (map plain_arm arms))
-  looks_arms [] h k = tt
-  looks_arms (a ∷ arms) h k =
-      let uses : List ArmUse = map arm_use (map plain_arm arms) in
-      let items = subst (λ (u : ArmUse). ItemsInside (label_items u.label ++ all_items (arm_labels uses))) (use_arm a.0) h in
-      let bodies = subst (λ (u : ArmUse). AllInside (u.body.all ++ flat_map (λ (x : StmtUse). x.all) (map (λ (b : ArmUse). b.body) uses))) (use_arm a.0) k in
-      let more : List Access = flat_map (λ (x : StmtUse). x.all) (map (λ (b : ArmUse). b.body) uses) in
-      let split = subst AllInside (flat_map-append (reads_of names) (label_items a.0.label) (all_items (arm_labels uses))) items in
-      let front : List Access = flat_map (reads_of names) (label_items a.0.label) in
-      let back : List Access = flat_map (reads_of names) (all_items (arm_labels uses)) in (
-        subst ArmInside (sym (acts_arm a.0)) (each_left (Inside names nets) front back split, a.1 (each_left (Inside names nets) (use_of names a.0.body).all more bodies)),
-        looks_arms arms (each_right (Inside names nets) front back split) (each_right (Inside names nets) (use_of names a.0.body).all more bodies),
-      )
-
-  abbrev StmtLayer : Stmt-F Stmt Arm → Type 0
-  StmtLayer y = AllInside (use_step names (map-Stmt Stmt Arm StmtUse ArmUse (use_of names) arm_use y)).all → ActsLookOnlyAt nets (stmt_step names sites (map-Stmt Stmt Arm Acts ArmActs (acts_of names sites) arm_acts y))
-
-  case_layer : (kind : CaseKind) (subject : Expr) (arms : List HeldArm) → StmtLayer (map-Stmt HeldStmt HeldArm Stmt Arm plain_stmt plain_arm (s.Case kind subject arms))
-  case_layer kind subject arms h =
-      let uses : List ArmUse = map arm_use (map plain_arm arms) in
-      let front : List Access = case_reads names subject (arm_labels uses) in
-      let bodies : List StmtUse = map (λ (a : ArmUse). a.body) uses in
-      let rest : List Access = flat_map (λ (x : StmtUse). x.all) (case_branches names subject uses) in
-      let items : List Access = flat_map (reads_of names) (all_items (arm_labels uses)) in
-      let first = each_left (Inside names nets) front rest h in
-      let second = each_right (Inside names nets) front rest h in
-      looks_case kind subject (map arm_acts (map plain_arm arms)) (each_left (Inside names nets) (reads_of names subject) items first)
-      (looks_arms arms (each_right (Inside names nets) (reads_of names subject) items first) (branches_inside bodies _ second)) where
-        branches_inside : (xs ys : List StmtUse) → AllInside (flat_map (λ (x : StmtUse). x.all) (xs ++ ys)) → AllInside (flat_map (λ (x : StmtUse). x.all) xs)
-        branches_inside xs ys k =
-            each_left (Inside names nets) (flat_map (λ (x : StmtUse). x.all) xs) (flat_map (λ (x : StmtUse). x.all) ys) (subst AllInside (flat_map-append (λ (x : StmtUse). x.all) xs ys) k)
-
-  stmt_layer : (y : Stmt-F HeldStmt HeldArm) → StmtLayer (map-Stmt HeldStmt HeldArm Stmt Arm plain_stmt plain_arm y)
-  stmt_layer s.Null h = tt
-  stmt_layer (s.Block xs) h = looks_body xs h
-  stmt_layer (s.If x a) h =
-      let one : List Access = (use_of names a.0).all in
-      let rest = each_right (Inside names nets) (reads_of names x) (one ++ ([] ++ [])) h in
-      looks_choice x (acts_of names sites a.0) End (each_left (Inside names nets) (reads_of names x) (one ++ ([] ++ [])) h) (a.1 (each_left (Inside names nets) one ([] ++ []) rest)) tt
-  stmt_layer (s.IfElse x a b) h =
-      let one : List Access = (use_of names a.0).all in
-      let other : List Access = (use_of names b.0).all in
-      let rest = each_right (Inside names nets) (reads_of names x) (one ++ (other ++ [])) h in
-      looks_choice x (acts_of names sites a.0) (acts_of names sites b.0) (each_left (Inside names nets) (reads_of names x) (one ++ (other ++ [])) h)
-      (a.1 (each_left (Inside names nets) one (other ++ []) rest)) (b.1 (each_left (Inside names nets) other [] (each_right (Inside names nets) one (other ++ []) rest)))
-  stmt_layer (s.Case kind subject arms) h = case_layer kind subject arms h
-  stmt_layer (s.Assign target kind value) h =
-      let reads : List Access = reads_of names value in
-      let indices : List Access = (target_use names kind target).reads in
-      let front = each_left (Inside names nets) (reads ++ indices) (target_use names kind target).writes h in
-      looks_writes kind (writes_of (target_of names sites target) (sense_of names sites value))
-      (same_writes target kind value (each_right (Inside names nets) reads indices front) (each_left (Inside names nets) reads indices front))
-
-  stmt_looks : (x : Stmt) → StmtLooks x
-  stmt_looks = ind-Stmt StmtLooks ArmLooks
-      (λ x y is h. subst (ActsLookOnlyAt nets) (sym (fold-roll-Stmt Acts ArmActs (stmt_step names sites) arm_step x))
-      (subst StmtLayer is (stmt_layer y) (subst AllInside (ap (λ (u : StmtUse). u.all) (fold-roll-Stmt StmtUse ArmUse (use_step names) mark_arm x)) h)))
-      (λ x y is. subst (λ (z : Arm-F Stmt Arm). StmtLooks z.body) is y.body.1)
+  looks_pass : Passes names sites (Inside names nets) (ActsLookOnlyAt nets)
+  looks_pass = record {
+    end = tt;
+    behind = looks_followed nets;
+    choice = looks_choice;
+    cases = looks_case;
+    assigns = λ target kind value reads indices writes.
+        looks_writes kind (writes_of (target_of names sites target) (sense_of names sites value)) (same_writes target kind value indices reads);
+  }
 
 pub acts_frame : (names : List Entry) (sites : List ℕ) (x : Stmt) → ActsLookOnlyAt (nets_read_by names x) (acts_of names sites x)
 acts_frame names sites x =
     let nets : List ℕ = nets_read_by names x in
-    stmt_looks names sites nets x (all_inside names nets (use_of names x).all (λ net there. there))
+    acts_have names sites (Inside names nets) (ActsLookOnlyAt nets) (looks_pass names sites nets) x (all_inside names nets (use_of names x).all (λ net there. there))

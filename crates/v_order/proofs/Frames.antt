@@ -220,7 +220,7 @@ agree_kind nets v w agree (Combinational k) h = agree.words k (h k (or_left (k =
 agree_kind nets v w agree (Variable k) h = ap (λ (s : Store). slice_index s.variables k) agree.store
 agree_kind nets v w agree (Memory k low count) h = ap (λ (s : Store). get_or s.memories k []) agree.store
 
-same_reads : (names : List Entry) (nets : List ℕ) (v w : View) → AgreeOn nets v w → (accesses : List Access) →
+pub same_reads : (names : List Entry) (nets : List ℕ) (v w : View) → AgreeOn nets v w → (accesses : List Access) →
     ((net : ℕ) → is_in net (nets_among names (reads_in accesses)) ≡ true → is_in net nets ≡ true) → Each (ReadsSame v w names) accesses
 same_reads names nets v w agree [] h = tt
 same_reads names nets v w agree (Read n bits ∷ more) h =
@@ -237,6 +237,10 @@ same_seen names sites x v w agree =
 
 pub value_frame : (names : List Entry) (sites : List ℕ) (x : Expr) (width : ℕ) (signed : Bool) → LooksOnlyAt (nets_read names x) ((sense_of names sites x).at width signed)
 value_frame names sites x width signed v w agree = ap (λ (s : Sense). s.at width signed v) (same_seen names sites x v w agree)
+
+pub assigned_same : (names : List Entry) (sites : List ℕ) (x : Expr) (width : ℕ) (v w : View) → v.sites ≡ w.sites → Each (ReadsSame v w names) (reads_of names x) →
+    assigned width (sense_of names sites x) v ≡ assigned width (sense_of names sites x) w
+assigned_same names sites x width v w places h = ap (λ (s : Sense). assigned width s v) (frames v w places names sites x h)
 
 pub assigned_frame : (names : List Entry) (sites : List ℕ) (x : Expr) (width : ℕ) → LooksOnlyAt (nets_read names x) (assigned width (sense_of names sites x))
 assigned_frame names sites x width v w agree = ap (λ (s : Sense). assigned width s v) (same_seen names sites x v w agree)

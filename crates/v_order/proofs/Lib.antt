@@ -5,3 +5,11 @@ pub mod Declared
 pub mod ModuleOrder
 pub mod ActFrames
 pub mod OrderRows
+pub mod TextOrder
+pub mod SteadyRows
+pub mod Statements
+pub mod BlockingWrites
+pub mod Depends
+pub mod Alike
+pub mod ModuleSteady
+pub mod NumberedRows

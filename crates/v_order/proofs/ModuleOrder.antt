@@ -31,16 +31,16 @@ use Rattle.v_meaning.specs.Modules.{net_assign, wire_assign, item_assigns, desig
 use Rattle.v_meaning.specs.Marks.{module_marks}
 use Rattle.v_meaning.specs.MarkRules.{place_if, declared_twice}
 use Rattle.v_meaning.specs.Uses.{AssignUse, Uses, reads_of, wire_use, item_assign_uses, uses_of}
-use Rattle.v_meaning.specs.ProcessRules.{reads_in, ident_names, places_if, is_net, assign_targets, assigned_again, never_assigned, assigned_names, wrong_target, wrong_assigns, combinational_of, circular}
+use Rattle.v_meaning.specs.ProcessRules.{reads_in, ident_names, places_if, is_net, assign_targets, assigned_again, never_assigned, assigned_names, wrong_target, wrong_assigns, combinational_of, circular, read_through}
 use Rattle.v_meaning.specs.Broken.{places_of, fault_or, first_fault, typing_rules, process_rules}
 use Rattle.v_uses.specs.Seen.{AssignSeen, Seen, assign_seen, seen_of}
 use Rattle.v_depends.specs.Nodes.{is_in}
 use Rattle.v_depends.specs.Orders.{reads_target, AreBehind, IsOrder}
 use Rattle.v_order.specs.Reads.{nets_of_kind, nets_among}
-use Rattle.v_order.specs.Settling.{AgreeOn, LooksOnlyAt, IsOrdered, net_of, with_found, elements_at, Settles}
-use Rattle.v_order.proofs.Settled.{Each}
-use Rattle.v_order.proofs.Frames.{each_left, each_right, in_cases, assigned_frame}
-use Rattle.v_order.proofs.Numbering.{AreNumbered, In, last_counts, below_last, same_entry, numbered_entry, numbered_kind, names_numbered}
+use Rattle.v_order.specs.Settling.{IsOrdered, net_of, with_found, elements_at, Settles}
+use Rattle.v_order.proofs.Settled.{Each, net_there}
+use Rattle.v_order.proofs.Frames.{each_left, each_right, in_cases, ReadsSame, assigned_same, same_reads}
+use Rattle.v_order.proofs.Numbering.{Numbered, In, IsClocked, number_of, last_number, last_counts, below_last, same_entry, numbered_entry, settled_net, settled_numbered, names_clocked}
 use Rattle.v_order.proofs.Declared.{AreNew, entry_names, names_new, found_entry}
 
 -- ---- rules that are kept
@@ -49,15 +49,15 @@ fault_none : (rule : Rule) (xs : List ℕ) (more : Option Fault) → fault_or ru
 fault_none rule [] more h = (refl, h)
 fault_none rule (x ∷ xs) more h = absurd (cc h)
 
-no_first : (xs ys : List ℕ) → xs ++ ys ≡ [] → xs ≡ []
+pub no_first : (xs ys : List ℕ) → xs ++ ys ≡ [] → xs ≡ []
 no_first [] ys h = refl
 no_first (x ∷ xs) ys h = absurd (cc h)
 
-no_rest : (xs ys : List ℕ) → xs ++ ys ≡ [] → ys ≡ []
+pub no_rest : (xs ys : List ℕ) → xs ++ ys ≡ [] → ys ≡ []
 no_rest [] ys h = h
 no_rest (x ∷ xs) ys h = absurd (cc h)
 
-not_in : (b : Bool) (at : ℕ) → place_if b at ≡ [] → b ≡ false
+pub not_in : (b : Bool) (at : ℕ) → place_if b at ≡ [] → b ≡ false
 not_in true at h = absurd (cc h)
 not_in false at h = refl
 
@@ -70,6 +70,7 @@ pub record Keeps (m : Module) : Type 0 where
   pub targets : wrong_target (uses_of (names_of m) m) ≡ []
   pub assigns : wrong_assigns (uses_of (names_of m) m) ≡ []
   pub acyclic : circular (uses_of (names_of m) m) ≡ []
+  pub through : read_through (uses_of (names_of m) m) ≡ []
 
 pub keeps : (m : Module) → first_fault (places_of m) typing_rules ≡ None → first_fault (places_of m) process_rules ≡ None → Keeps m
 keeps m typed kept =
@@ -81,30 +82,32 @@ keeps m typed kept =
     let p5 = fault_none r.P5 (places r.P5) (first_fault places (r.P6 ∷ r.P7 ∷ r.P8 ∷ r.P9 ∷ r.P10 ∷ r.W1 ∷ [])) p4.1 in
     let p6 = fault_none r.P6 (places r.P6) (first_fault places (r.P7 ∷ r.P8 ∷ r.P9 ∷ r.P10 ∷ r.W1 ∷ [])) p5.1 in
     let p7 = fault_none r.P7 (places r.P7) (first_fault places (r.P8 ∷ r.P9 ∷ r.P10 ∷ r.W1 ∷ [])) p6.1 in
+    let p8 = fault_none r.P8 (places r.P8) (first_fault places (r.P9 ∷ r.P10 ∷ r.W1 ∷ [])) p7.1 in
     let e4 = fault_none r.E4 (places r.E4) (first_fault places (r.E5 ∷ r.E6 ∷ r.E7 ∷ r.E8 ∷ r.E9 ∷ r.E10 ∷ r.E11 ∷ r.E12 ∷ r.E13 ∷ [])) typed in
-    record { once = no_first (declared_twice [] (module_marks (names_of m) m)) [] e4.0; targets = p2.0; assigns = p6.0; acyclic = p7.0 }
+    record { once = no_first (declared_twice [] (module_marks (names_of m) m)) [] e4.0; targets = p2.0; assigns = p6.0; acyclic = p7.0; through = p8.0 }
 
 -- ---- names
 
-same_bytes : (a b : List ℕ) → bytes_eq a b ≡ true → a ≡ b
+pub same_bytes : (a b : List ℕ) → bytes_eq a b ≡ true → a ≡ b
 same_bytes a b h = (bytes_eq-Decides a b).0 h
 
-self_bytes : (a b : List ℕ) → a ≡ b → bytes_eq a b ≡ true
+pub self_bytes : (a b : List ℕ) → a ≡ b → bytes_eq a b ≡ true
 self_bytes a b h = (bytes_eq-Decides a b).1 h
 
--- a name that settles is that of an entry
+-- a name whose kind passes a test that an undeclared one doesn't is that of an entry
 pub record IsFound (names : List Entry) (name : List ℕ) (e : Entry) : Type 0 where
   pub there : In e names
   pub named : e.name ≡ name
 
-found_case : (b : Bool) (x : Entry) (names : List Entry) (name : List ℕ) → bytes_eq x.name name ≡ b → (is_settled (entry_or (found names name)).kind ≡ true → IsFound names name (entry_or (found names name))) →
-    is_settled (entry_or (cond b (Some x) (found names name))).kind ≡ true → IsFound (x ∷ names) name (entry_or (cond b (Some x) (found names name)))
-found_case true x names name is later h = record { there = inl refl; named = same_bytes x.name name is }
-found_case false x names name is later h = let r = later h in record { there = inr r.there; named = r.named }
+module _ (test : Kind → Bool) (declared : test k.Clock ≡ false) where
+  found_case : (b : Bool) (x : Entry) (names : List Entry) (name : List ℕ) → bytes_eq x.name name ≡ b → (test (entry_or (found names name)).kind ≡ true → IsFound names name (entry_or (found names name))) →
+      test (entry_or (cond b (Some x) (found names name))).kind ≡ true → IsFound (x ∷ names) name (entry_or (cond b (Some x) (found names name)))
+  found_case true x names name is later h = record { there = inl refl; named = same_bytes x.name name is }
+  found_case false x names name is later h = let r = later h in record { there = inr r.there; named = r.named }
 
-found_in : (names : List Entry) (name : List ℕ) → is_settled (entry_or (found names name)).kind ≡ true → IsFound names name (entry_or (found names name))
-found_in [] name h = absurd (cc h)
-found_in (x ∷ names) name h = found_case (bytes_eq x.name name) x names name refl (found_in names name) h
+  pub found_in : (names : List Entry) (name : List ℕ) → test (entry_or (found names name)).kind ≡ true → IsFound names name (entry_or (found names name))
+  found_in [] name h = absurd (cc (declared, h))
+  found_in (x ∷ names) name h = found_case (bytes_eq x.name name) x names name refl (found_in names name) h
 
 -- ---- the assigns of a design are those that were seen
 
@@ -118,12 +121,12 @@ net_number (k.Variable n) h = absurd (cc h)
 net_number (k.Memory n low count) h = absurd (cc h)
 
 module _ (names : List Entry) (sites : List ℕ) where
-  -- an assign is to the net of the target that was seen, and looks only at the nets that were read
+  -- an assign is to the net of the target that was seen, and has the same value where the names that were read have the same
   pub record IsMade (x : AssignUse) (a : Assign) : Type 0 where
     pub target : (entry_of names x.target.name).kind ≡ k.Net a.net
-    pub looks : LooksOnlyAt (nets_among names (reads_in x.reads)) a.value
+    pub same : (v w : View) → v.sites ≡ w.sites → Each (ReadsSame v w names) x.reads → a.value v ≡ a.value w
 
-  abbrev AreMade : List AssignUse → List Assign → Type 0
+  abbrev pub AreMade : List AssignUse → List Assign → Type 0
   AreMade [] [] = ⊤
   AreMade [] (a ∷ gs) = ⊥
   AreMade (x ∷ xs) [] = ⊥
@@ -135,7 +138,7 @@ module _ (names : List Entry) (sites : List ℕ) where
   made_append (x ∷ xs) ys [] bs h k = absurd h
   made_append (x ∷ xs) ys (a ∷ gs) bs h k = (h.0, made_append xs ys gs bs h.1 k)
 
-  abbrev IsToNet : AssignUse → Type 0
+  abbrev pub IsToNet : AssignUse → Type 0
   IsToNet x = is_net (entry_of names x.target.name).kind ≡ true
 
   net_is : (name : Ident) (x : Expr) (n : ℕ) → (entry_of names name.name).kind ≡ k.Net n →
@@ -146,7 +149,7 @@ module _ (names : List Entry) (sites : List ℕ) where
   net_made name x h =
       let n = net_number (entry_of names name.name).kind h in
       subst (AreMade (record { target = name; reads = reads_of names x } ∷ [])) (sym (net_is name x n.0 n.1))
-      (record { target = n.1; looks = assigned_frame names sites x (entry_of names name.name).width }, tt)
+      (record { target = n.1; same = λ v w places h. assigned_same names sites x (entry_of names name.name).width v w places h }, tt)
 
   wire_made : (name : Ident) (x : Option Placed) → Each IsToNet (wire_use names name x) → AreMade (wire_use names name x) (wire_assign names sites name x)
   wire_made name None h = tt
@@ -178,14 +181,14 @@ module _ (names : List Entry) (sites : List ℕ) where
   item_made (i.Assigns settings) h = settings_made settings h
   item_made (i.Always event body) h = tt
 
-  items_made : (items : List Item) → Each IsToNet (flat_map (item_assign_uses names) items) → AreMade (flat_map (item_assign_uses names) items) (flat_map (item_assigns names sites) items)
+  pub items_made : (items : List Item) → Each IsToNet (flat_map (item_assign_uses names) items) → AreMade (flat_map (item_assign_uses names) items) (flat_map (item_assigns names sites) items)
   items_made [] h = tt
   items_made (x ∷ items) h =
       let own : List AssignUse = item_assign_uses names x in
       let more : List AssignUse = flat_map (item_assign_uses names) items in
       made_append own more (item_assigns names sites x) (flat_map (item_assigns names sites) items) (item_made x (each_left IsToNet own more h)) (items_made items (each_right IsToNet own more h))
 
-  to_nets : (xs : List AssignUse) → places_if (λ name. not (is_net (entry_of names name).kind)) (map (λ (x : AssignUse). x.target) xs) ≡ [] → Each IsToNet xs
+  pub to_nets : (xs : List AssignUse) → places_if (λ name. not (is_net (entry_of names name).kind)) (map (λ (x : AssignUse). x.target) xs) ≡ [] → Each IsToNet xs
   to_nets [] h = tt
   to_nets (x ∷ xs) h =
       let own : List ℕ = place_if (not (is_net (entry_of names x.target.name).kind)) x.target.at in
@@ -195,7 +198,7 @@ module _ (names : List Entry) (sites : List ℕ) where
 -- ---- elements that were made, by number
 
 module _ (names : List Entry) (sites : List ℕ) where
-  made_at : (xs : List AssignUse) (gs : List Assign) (n : ℕ) (a : Assign) → AreMade names sites xs gs → slice_get gs n ≡ Some a → (x : AssignUse) × (slice_get xs n ≡ Some x) × IsMade names sites x a
+  pub made_at : (xs : List AssignUse) (gs : List Assign) (n : ℕ) (a : Assign) → AreMade names sites xs gs → slice_get gs n ≡ Some a → (x : AssignUse) × (slice_get xs n ≡ Some x) × IsMade names sites x a
   made_at [] [] n a h is = absurd (cc is)
   made_at [] (b ∷ gs) n a h is = absurd h
   made_at (x ∷ xs) [] n a h is = absurd h
@@ -209,7 +212,7 @@ module _ (names : List Entry) (sites : List ℕ) where
   made_of (y ∷ xs) (b ∷ gs) zero x h is = let e : y ≡ x = cc is in (b, refl, subst (λ (z : AssignUse). IsMade names sites z b) e h.0)
   made_of (y ∷ xs) (b ∷ gs) (suc n) x h is = made_of xs gs n x h.1 is
 
-  as_many : (xs : List AssignUse) (gs : List Assign) → AreMade names sites xs gs → length gs ≡ length xs
+  pub as_many : (xs : List AssignUse) (gs : List Assign) → AreMade names sites xs gs → length gs ≡ length xs
   as_many [] [] h = refl
   as_many [] (b ∷ gs) h = absurd h
   as_many (y ∷ xs) [] h = absurd h
@@ -217,7 +220,7 @@ module _ (names : List Entry) (sites : List ℕ) where
 
 -- ---- targets
 
-abbrev targets_of : List AssignUse → List Ident
+abbrev pub targets_of : List AssignUse → List Ident
 targets_of xs = map (λ (x : AssignUse). x.target) xs
 
 once_out : (before : List (List ℕ)) (xs : List AssignUse) (n : ℕ) (x : AssignUse) → assigned_again before (targets_of xs) ≡ [] → slice_get xs n ≡ Some x → is_among x.target.name before ≡ false
@@ -277,7 +280,7 @@ settled_kind (k.Combinational n) net h = refl
 settled_kind (k.Variable n) net h = absurd (cc h)
 settled_kind (k.Memory n low count) net h = absurd (cc h)
 
-read_net : (names : List Entry) (ns : List Ident) (net : ℕ) → is_in net (nets_among names ns) ≡ true → (name : List ℕ) × (is_among name (ident_names ns) ≡ true) × (is_in net (nets_of_kind (entry_of names name).kind) ≡ true)
+pub read_net : (names : List Entry) (ns : List Ident) (net : ℕ) → is_in net (nets_among names ns) ≡ true → (name : List ℕ) × (is_among name (ident_names ns) ≡ true) × (is_in net (nets_of_kind (entry_of names name).kind) ≡ true)
 read_net names [] net h = absurd (cc h)
 read_net names (n ∷ ns) net h = elim (in_cases net (nets_of_kind (entry_of names n.name).kind) (nets_among names ns) h) [
   | inl here ↦ (n.name, or_left (bytes_eq n.name n.name) (is_among n.name (ident_names ns)) (self_bytes n.name n.name refl), here)
@@ -286,7 +289,7 @@ read_net names (n ∷ ns) net h = elim (in_cases net (nets_of_kind (entry_of nam
 
 -- ---- the order
 
-net_same : (m n : ℕ) → k.Net m ≡ k.Net n → m ≡ n
+pub net_same : (m n : ℕ) → k.Net m ≡ k.Net n → m ≡ n
 net_same m n h = cc h
 
 one_in : (m n : ℕ) → is_in n (m ∷ []) ≡ true → m ≡ n
@@ -294,11 +297,6 @@ one_in m n h = elim (or_cases (m == n) false h) [
   | inl same ↦ eqb-true m n same
   | inr none ↦ absurd (cc none)
 ]
-
-in_map : (gs : List Assign) (n : ℕ) (a : Assign) → slice_get gs n ≡ Some a → is_in a.net (map net_of gs) ≡ true
-in_map [] n a is = absurd (cc is)
-in_map (x ∷ xs) zero a is = let e : x ≡ a = cc is in or_left (x.net == a.net) (is_in a.net (map net_of xs)) (eq-eqb x.net a.net (ap net_of e))
-in_map (x ∷ xs) (suc n) a is = or_right (x.net == a.net) (is_in a.net (map net_of xs)) (in_map xs n a is)
 
 map_in : (gs : List Assign) (net : ℕ) → is_in net (map net_of gs) ≡ true → (n : ℕ) × (a : Assign) × (slice_get gs n ≡ Some a) × (a.net ≡ net)
 map_in [] net h = absurd (cc h)
@@ -311,23 +309,21 @@ both_or_neither : (a b : Bool) → (a ≡ true → b ≡ true) → (b ≡ true �
 both_or_neither true b to from = sym (to refl)
 both_or_neither false b to from = sym (false_from_ne_true b (λ h. absurd (cc (from h))))
 
-weaker : (nets more : List ℕ) (v w : View) → ((net : ℕ) → is_in net nets ≡ true → is_in net more ≡ true) → AgreeOn more v w → AgreeOn nets v w
-weaker nets more v w h a = record { inputs = a.inputs; store = a.store; sites = a.sites; words = λ net there. a.words net (h net there) }
-
-module _ (names : List Entry) (sites : List ℕ) (xs : List AssignUse) (gs : List Assign) (numbered : AreNumbered 0 names) (new : AreNew [] (entry_names names)) (made : AreMade names sites xs gs)
+module _ (names : List Entry) (sites : List ℕ) (xs : List AssignUse) (gs : List Assign) (numbered : Numbered is_settled 0 names) (clocked : Each IsClocked names) (new : AreNew [] (entry_names names)) (made : AreMade names sites xs gs)
     (once : assigned_again [] (targets_of xs) ≡ []) (all : never_assigned (ident_names (targets_of xs)) names ≡ []) where
   -- a name that settles is the target of an assign to its net
   maker : (name : List ℕ) (net : ℕ) → is_in net (nets_of_kind (entry_of names name).kind) ≡ true → (n : ℕ) × (x : AssignUse) × (a : Assign) × (slice_get xs n ≡ Some x) × (slice_get gs n ≡ Some a) × (x.target.name ≡ name) × (a.net ≡ net)
   maker name net h =
       let settles = settled_kind (entry_of names name).kind net h in
-      let f = found_in names name settles in
-      let kind = numbered_kind 0 names (entry_of names name) numbered f.there settles in
-      let same : kind.0 ≡ net = one_in kind.0 net (sym (ap (λ (t : Kind). is_in net (nets_of_kind t)) kind.1) ∙ h) in
-      let among = assigned_entry (ident_names (targets_of xs)) names (entry_of names name) all f.there (ap is_net kind.1) in
+      let f = found_in is_settled refl names name settles in
+      let number : ℕ = number_of (entry_of names name).kind in
+      let kind : (entry_of names name).kind ≡ k.Net number = settled_net names (entry_of names name) clocked f.there settles in
+      let same : number ≡ net = one_in number net (sym (ap (λ (t : Kind). is_in net (nets_of_kind t)) kind) ∙ h) in
+      let among = assigned_entry (ident_names (targets_of xs)) names (entry_of names name) all f.there (ap is_net kind) in
       let t = target_at xs name (ap (λ l. is_among l (ident_names (targets_of xs))) (sym f.named) ∙ among) in
       let a = made_of names sites xs gs t.0 t.1 made t.2 in
-      let to : k.Net a.0.net ≡ k.Net kind.0 = sym a.2.target ∙ ap (λ l. (entry_of names l).kind) t.3 ∙ kind.1 in
-      (t.0, t.1, a.0, t.2, a.1, t.3, net_same a.0.net kind.0 to ∙ same)
+      let to : k.Net a.0.net ≡ k.Net number = sym a.2.target ∙ ap (λ l. (entry_of names l).kind) t.3 ∙ kind in
+      (t.0, t.1, a.0, t.2, a.1, t.3, net_same a.0.net number to ∙ same)
 
   -- assigns to the same net are the same
   same_number : (n l : ℕ) (a b : Assign) → slice_get gs n ≡ Some a → slice_get gs l ≡ Some b → a.net ≡ b.net → n ≡ l
@@ -335,9 +331,10 @@ module _ (names : List Entry) (sites : List ℕ) (xs : List AssignUse) (gs : Lis
       let x = made_at names sites xs gs n a made p in
       let y = made_at names sites xs gs l b made q in
       let kind : (entry_of names y.0.target.name).kind ≡ k.Net a.net = y.2.target ∙ ap (λ (t : ℕ). k.Net t) (sym same) in
-      let f = found_in names x.0.target.name (ap is_settled x.2.target) in
-      let g = found_in names y.0.target.name (ap is_settled kind) in
-      let e = same_entry 0 names (entry_of names x.0.target.name) (entry_of names y.0.target.name) a.net numbered f.there g.there x.2.target kind in
+      let f = found_in is_settled refl names x.0.target.name (ap is_settled x.2.target) in
+      let g = found_in is_settled refl names y.0.target.name (ap is_settled kind) in
+      let e = same_entry is_settled 0 names (entry_of names x.0.target.name) (entry_of names y.0.target.name) numbered f.there g.there (ap is_settled x.2.target) (ap is_settled kind)
+      (ap number_of x.2.target ∙ sym (ap number_of kind)) in
       once_same [] xs n l x.0 y.0 once x.1 y.1 (sym f.named ∙ ap (λ (t : Entry). t.name) e ∙ g.named)
 
   -- these nets are those of the assigns of these numbers
@@ -391,11 +388,11 @@ module _ (names : List Entry) (sites : List ℕ) (xs : List AssignUse) (gs : Lis
         false_from_ne_true (is_in a.net nets) (λ there.
             let t = c.only a.net there in
             cc (ap (λ l. is_in l before) (same_number t.0 n t.1 a t.2 is t.4), t.3, out)),
-        λ v w agree. x.2.looks v w (weaker (nets_among names (reads_in x.0.reads)) nets v w (λ net there.
+        λ v w agree. x.2.same v w agree.sites (same_reads names nets v w agree x.0.reads (λ net there.
             let r = read_net names (reads_in x.0.reads) net there in
             let t = maker r.0 net r.2 in
             let reads : reads_target (assign_seen x.0) (assign_seen t.1) ≡ true = ap (λ l. is_among l (ident_names (reads_in x.0.reads))) t.5 ∙ r.1 in
-            ap (λ l. is_in l nets) (sym t.6) ∙ c.holds t.0 t.2 t.4 (behind (assign_seen x.0) t.0 (assign_seen t.1) (seen_at n x.0 x.1) (seen_at t.0 t.1 t.3) reads)) agree),
+            ap (λ l. is_in l nets) (sym t.6) ∙ c.holds t.0 t.2 t.4 (behind (assign_seen x.0) t.0 (assign_seen t.1) (seen_at n x.0 x.1) (seen_at t.0 t.1 t.3) reads))),
         rest (a.net ∷ nets) (covers_push before nets n a is c),
       )
 
@@ -410,14 +407,16 @@ module _ (names : List Entry) (sites : List ℕ) (xs : List AssignUse) (gs : Lis
       (λ there.
       let t = map_in gs net there in
       let x = made_at names sites xs gs t.0 t.1 made t.2 in
-      let f = found_in names x.0.target.name (ap is_settled x.2.target) in
-      let below = below_last 0 names (entry_of names x.0.target.name) t.1.net numbered f.there x.2.target in
-      lt-ltb net (count_of is_settled names) (subst (λ n. n < count_of is_settled names) t.3 (subst (λ n. t.1.net < n) (last_counts names) below)))
+      let f = found_in is_settled refl names x.0.target.name (ap is_settled x.2.target) in
+      let below : t.1.net < last_number is_settled 0 names = subst (λ (kind : Kind). number_of kind < last_number is_settled 0 names) x.2.target
+      (below_last is_settled 0 names (entry_of names x.0.target.name) numbered f.there (ap is_settled x.2.target)) in
+      lt-ltb net (count_of is_settled names) (subst (λ n. n < count_of is_settled names) t.3 (subst (λ n. t.1.net < n) (last_counts is_settled names) below)))
       (λ below.
-      let e = numbered_entry 0 names net numbered (omega arith) (subst (λ n. net < n) (sym (last_counts names)) (ltb-true net (count_of is_settled names) below)) in
-      let own : (entry_of names e.0.name).kind ≡ k.Net net = ap (λ (o : Option Entry). (entry_or o).kind) (found_entry [] names e.0 new e.1) ∙ e.2 in
-      let t = maker e.0.name net (ap (λ (kind : Kind). is_in net (nets_of_kind kind)) own ∙ or_left (net == net) false (eq-eqb net net refl)) in
-      ap (λ n. is_in n (map net_of gs)) (sym t.6) ∙ in_map gs t.0 t.2 t.4)
+      let e = numbered_entry is_settled 0 names net numbered (omega arith) (subst (λ n. net < n) (sym (last_counts is_settled names)) (ltb-true net (count_of is_settled names) below)) in
+      let own : (entry_of names e.entry.name).kind ≡ k.Net net =
+      ap (λ (o : Option Entry). (entry_or o).kind) (found_entry [] names e.entry new e.there) ∙ settled_net names e.entry clocked e.there e.passes ∙ ap (λ n. k.Net n) e.number in
+      let t = maker e.entry.name net (ap (λ (kind : Kind). is_in net (nets_of_kind kind)) own ∙ or_left (net == net) false (eq-eqb net net refl)) in
+      ap (λ n. is_in n (map net_of gs)) (sym t.6) ∙ net_there gs t.0 t.2 t.4)
 
   seen_many : (ys : List AssignUse) → length (map assign_seen ys) ≡ length ys
   seen_many [] = refl
@@ -443,7 +442,7 @@ module_settles m order kept clocked o =
     let again : List ℕ = assigned_again [] (assign_targets u) in
     let never : List ℕ = never_assigned (assigned_names u) names in
     let nets = to_nets names sites u.assigns (no_rest _ _ kept.targets) in
-    order_settles names sites u.assigns (design_of m).assigns (names_numbered m clocked) (names_new m kept.once) (items_made names sites m.items nets) (no_first again never kept.assigns) (no_rest again never kept.assigns)
+    order_settles names sites u.assigns (design_of m).assigns (settled_numbered m) (names_clocked m clocked) (names_new m kept.once) (items_made names sites m.items nets) (no_first again never kept.assigns) (no_rest again never kept.assigns)
     (design_of m) order refl refl o
 
 -- from the uses that were seen

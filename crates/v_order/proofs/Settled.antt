@@ -41,7 +41,7 @@ module _ {A : Type 0} (P : A → Type 0) where
     | inr behind ↦ element_at xs numbers i x (rest_of (slice_get xs j) (elements_at xs numbers) h) behind is
   ]
 
-  all_by_number : (xs : List A) → ((i : ℕ) (x : A) → slice_get xs i ≡ Some x → P x) → Each P xs
+  pub all_by_number : (xs : List A) → ((i : ℕ) (x : A) → slice_get xs i ≡ Some x → P x) → Each P xs
   all_by_number [] f = tt
   all_by_number (x ∷ xs) f = (f 0 x refl, all_by_number xs (λ i y is. f (suc i) y is))
 
@@ -51,15 +51,15 @@ module _ {A : Type 0} (P : A → Type 0) where
 
 -- ---- nets of assigns
 
-abbrev HasNet : List ℕ → Assign → Type 0
+abbrev pub HasNet : List ℕ → Assign → Type 0
 HasNet nets a = is_in a.net nets ≡ true
 
-net_there : (assigns : List Assign) (i : ℕ) (a : Assign) → slice_get assigns i ≡ Some a → HasNet (map net_of assigns) a
+pub net_there : (assigns : List Assign) (i : ℕ) (a : Assign) → slice_get assigns i ≡ Some a → HasNet (map net_of assigns) a
 net_there [] i a is = absurd (cc is)
 net_there (x ∷ xs) zero a is = let e : x ≡ a = cc is in or_left (x.net == a.net) (is_in a.net (map net_of xs)) (eq-eqb x.net a.net (ap net_of e))
 net_there (x ∷ xs) (suc i) a is = or_right (x.net == a.net) (is_in a.net (map net_of xs)) (net_there xs i a is)
 
-net_in : (nets : List ℕ) (assigns : List Assign) (net : ℕ) → Each (HasNet nets) assigns → is_in net (map net_of assigns) ≡ true → is_in net nets ≡ true
+pub net_in : (nets : List ℕ) (assigns : List Assign) (net : ℕ) → Each (HasNet nets) assigns → is_in net (map net_of assigns) ≡ true → is_in net nets ≡ true
 net_in nets [] net h there = absurd (cc there)
 net_in nets (a ∷ assigns) net h there = elim (or_cases (a.net == net) (is_in net (map net_of assigns)) there) [
   | inl here ↦ ap (λ n. is_in n nets) (sym (eqb-true a.net net here)) ∙ h.0

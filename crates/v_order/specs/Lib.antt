@@ -1,2 +1,5 @@
 pub mod Settling
 pub mod Reads
+pub mod Stepping
+pub mod Steady
+pub mod Numbered

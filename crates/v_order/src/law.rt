@@ -1,14 +1,23 @@
-ghost use Rattle.std.specs.Prelude.{◌≡◌, [], ℕ, List, Bool};
+ghost use Rattle.std.specs.Prelude.{◌≡◌, [], ℕ, List, length, Bool, None};
 ghost use Rattle.v_syntax.specs.declared.expr.Expr.{Expr};
 ghost use Rattle.v_syntax.specs.declared.stmt.Stmt.{Stmt};
+ghost use Rattle.v_syntax.specs.declared.module.Module.{Module};
 ghost use Rattle.v_meaning.specs.declared.names.Entry.{Entry};
-ghost use Rattle.v_meaning.specs.Views.{View};
+ghost use Rattle.v_meaning.specs.Views.{Store, View};
 ghost use Rattle.v_meaning.specs.Senses.{assigned};
 ghost use Rattle.v_meaning.specs.Expressions.{sense_of};
 ghost use Rattle.v_meaning.specs.Statements.{acts_of};
-ghost use Rattle.v_meaning.specs.Designs.{Design, IsSettled};
+ghost use Rattle.v_meaning.specs.Broken.{places_of, first_fault, process_rules, typing_rules};
+ghost use Rattle.v_meaning.specs.Declarations.{names_of};
+ghost use Rattle.v_meaning.specs.Modules.{design_of};
+ghost use Rattle.v_meaning.specs.ProcessRules.{combinational_of};
+ghost use Rattle.v_meaning.specs.Uses.{uses_of};
+ghost use Rattle.v_meaning.specs.Designs.{Design, InTextOrder, IsOutcome, IsSettled, cycle_bits};
+ghost use Rattle.v_order.specs.Numbered.{AreNumbered};
 ghost use Rattle.v_order.specs.Reads.{nets_read, nets_read_by};
 ghost use Rattle.v_order.specs.Settling.{ActsLookOnlyAt, LooksOnlyAt, Settles, settled_by, with_nets};
+ghost use Rattle.v_order.specs.Steady.{AtOnce, IsSteady};
+ghost use Rattle.v_order.specs.Stepping.{next_by, shown_by};
 
 /// Law: of all nets the value of an expression looks only at those that it reads, at every width and sign; and so do the
 /// acts of a statement.
@@ -24,4 +33,31 @@ pub fn reads_decide()
 pub fn nets_settle_in_one_way()
     ensures settled { (d : Design) (order : List ℕ) (v : View) → d.combinational ≡ [] → Settles d order → IsSettled d (with_nets v (settled_by d order v)) }
     ensures alone { (d : Design) (order : List ℕ) (v : View) (nets : List ℕ) → Settles d order → IsSettled d (with_nets v nets) → nets ≡ settled_by d order v }
+{}
+
+/// Law: in a steady design the nets need settle only once in a cycle. Where they are computed once, in the order, and each
+/// clocked process then takes all its steps with the nets as they are, one process after another, this shows and leaves what
+/// the cycle does under some complete schedule in text order, and under every such schedule (IEEE Std 1364-2005, 11.4).
+pub fn text_order_cycles()
+    ensures { (d : Design) (order : List ℕ) (b : AtOnce) (before : Store) (inputs : List ℕ) (choice : List Bool) → d.combinational ≡ [] → Settles d order → IsSteady d order b → length choice ≡ cycle_bits d → IsOutcome InTextOrder d before inputs choice (shown_by d order before inputs choice) (next_by d order before inputs choice) }
+{}
+
+/// Law: a module that breaks no rule and whose processes are all clocked is steady: its blocking assignments write certain
+/// variables and memories, and whatever these hold, the nets that its processes look at settle alike (IEEE Std 1364-2005,
+/// 9.2.1 and 11.6.1). Where no process is combinational, none of the design is.
+pub fn processes_are_steady()
+    ensures clocked { (m : Module) → combinational_of (uses_of (names_of m) m) ≡ [] → (design_of m).combinational ≡ [] }
+    ensures steady { (m : Module) → first_fault (places_of m) typing_rules ≡ None → first_fault (places_of m) process_rules ≡ None → combinational_of (uses_of (names_of m) m) ≡ [] → (order : List ℕ) → Settles (design_of m) order → (b : AtOnce) × IsSteady (design_of m) order b }
+{}
+
+/// Law: so a cycle of such a module in text order shows and leaves what it does where the nets are computed once, in the
+/// order, and each clocked process then takes all its steps with the nets as they are, one process after another.
+pub fn modules_cycle_in_text_order()
+    ensures { (m : Module) → first_fault (places_of m) typing_rules ≡ None → first_fault (places_of m) process_rules ≡ None → combinational_of (uses_of (names_of m) m) ≡ [] → (order : List ℕ) → Settles (design_of m) order → (before : Store) (inputs : List ℕ) (choice : List Bool) → length choice ≡ cycle_bits (design_of m) → IsOutcome InTextOrder (design_of m) before inputs choice (shown_by (design_of m) order before inputs choice) (next_by (design_of m) order before inputs choice) }
+{}
+
+/// Law: the inputs, the nets with the combinational variables, the other variables, and the memories of a module are each
+/// numbered from 0 in the order of their declarations.
+pub fn names_are_numbered()
+    ensures { (m : Module) → AreNumbered [] (names_of m) }
 {}

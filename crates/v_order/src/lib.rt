@@ -1,13 +1,17 @@
-//! The order in which the nets of a module are computed.
+//! The order in which the nets of a module are computed, and that they need be computed only once in a cycle.
 //!
 //! It stands on `v_meaning` for what a cycle is, on `v_uses` for what each assign reads, and on `v_depends` for an order of
 //! the assigns by the names that they read. Promised are: `order` answers an order in which the nets of a module settle
-//! that breaks no rule and whose processes are all clocked; an expression looks only at the nets that it reads; and nets
-//! settle in one way, which is to compute each once in such an order.
+//! that breaks no rule and whose processes are all clocked; an expression looks only at the nets that it reads; nets settle
+//! in one way, which is to compute each once in such an order; a cycle of such a module in text order is one in which they
+//! do so once and each clocked process then takes all its steps; and declared names are numbered from 0, kind by kind.
 #![tactic(auto)]
 
 mod law;
 mod ordering;
 
-pub use law::{nets_settle_in_one_way, reads_decide};
+pub use law::{
+    modules_cycle_in_text_order, names_are_numbered, nets_settle_in_one_way, processes_are_steady,
+    reads_decide, text_order_cycles,
+};
 pub use ordering::order;

@@ -4,6 +4,7 @@ use Rattle.std.specs.Prelude.{◌==◌, if◌then◌else◌, Option, slice_get}
 use Rattle.std.proofs.lemmas.Option.{slice_get-get_or}
 use Rattle.std.specs.List.{list_all, list_any}
 use Rattle.std.proofs.lemmas.List.Folds.{list_all-map}
+use Rattle.v_meaning.specs.Designs.{total}
 use Rattle.v_meaning.specs.Acts.{Acts, End, sequence}
 use Rattle.v_meaning.specs.declared.names.Entry.{Entry}
 use Rattle.v_core.specs.declared.typed.Typed.{Typed}
@@ -18,7 +19,6 @@ use Rattle.v_core.specs.Formed.{formed, has}
 use Rattle.v_core.specs.FormedCores.{KeptIn, KeptArm, are_formed_items, formed_arm_step, formed_stmt_step, is_formed_stmt}
 use Rattle.v_core.specs.Sited.{SitedIn, is_sited}
 use Rattle.v_core.specs.Statements.{ActsIn, acts_in, acts_step, all_acts, arm_in_step, default_among, default_in, is_met_in, items_in, taken_in}
-use Rattle.v_values.specs.Queues.{total}
 use Rattle.v_machine.specs.Cases.{are_compared, are_kept_arms}
 use Rattle.v_machine.specs.Executed.{acts_of_arm, all_acts_in, are_sited_items, arm_count_step, arms_in, is_sited_stmt, sited_arm_step, sited_stmt_step, write_count, write_count_step, write_counts}
 use Rattle.v_machine.specs.Stepping.{Stepping, finished}

@@ -2,6 +2,7 @@
 use Rattle.std.specs.Prelude.{ℕ, ◌+◌, List, [], ◌∷◌, map, Bool, true, ◌&&◌, Option, None, Some, slice_get}
 use Rattle.std.specs.List.{list_all}
 use Rattle.v_meaning.specs.Acts.{Acts}
+use Rattle.v_meaning.specs.Designs.{total}
 use Rattle.v_meaning.specs.declared.names.Entry.{Entry}
 use Rattle.v_core.specs.declared.statement.TypedItem.{TypedItem}
 use Rattle.v_core.specs.declared.statement.TypedArm.{TypedArm}
@@ -13,7 +14,7 @@ use Rattle.v_core.specs.Sited.{SitedIn, is_sited}
 use Rattle.v_core.specs.Statements.{ArmIn, acts_in, items_in}
 use Rattle.v_values.specs.Kept.{is_sited_target}
 use Rattle.v_values.specs.Moments.{MomentValue}
-use Rattle.v_values.specs.Queues.{QueueValue, total}
+use Rattle.v_values.specs.Queues.{QueueValue}
 use Rattle.v_values.specs.Queues as queue
 use Rattle.v_machine.specs.Stepping.{Stepping}
 

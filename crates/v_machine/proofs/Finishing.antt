@@ -2,7 +2,7 @@
 use Rattle.std.proofs.Common.{◌≡◌, ap, sym, ◌∙◌, refl, List, ◌∷◌, ◌++◌}
 use Rattle.v_meaning.specs.Views.{applied}
 use Rattle.v_meaning.specs.Acts.{Acts, End, Branch, Blocking, Nonblocking, followed, sequence}
-use Rattle.v_machine.specs.Stepping.{Stepping, finished}
+use Rattle.v_order.specs.Stepping.{Stepping, finished}
 
 pub finished_behind : (a more : Acts) (s : Stepping) → finished (followed a more) s ≡ finished more (finished a s)
 finished_behind End more s = refl

@@ -3,3 +3,9 @@ pub mod Finishing
 pub mod Layers
 pub mod StmtLaws
 pub mod Depths
+pub mod Computing
+pub mod Showing
+pub mod Stepped
+pub mod Beginning
+pub mod Runs
+pub mod Outcomes

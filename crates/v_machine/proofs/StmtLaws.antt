@@ -21,7 +21,7 @@ use Rattle.v_core.specs.Sited.{SitedIn, is_sited}
 use Rattle.v_core.specs.Statements.{ActsIn, acts_in, acts_step, all_acts, arm_in_step, default_among, default_in, is_met_in, items_in, taken_in}
 use Rattle.v_machine.specs.Cases.{are_compared, are_kept_arms}
 use Rattle.v_machine.specs.Executed.{acts_of_arm, all_acts_in, are_sited_items, arm_count_step, arms_in, is_sited_stmt, sited_arm_step, sited_stmt_step, write_count, write_count_step, write_counts}
-use Rattle.v_machine.specs.Stepping.{Stepping, finished}
+use Rattle.v_order.specs.Stepping.{Stepping, finished}
 use Rattle.v_machine.proofs.Layers.{at_block, at_case}
 use Rattle.v_machine.proofs.Lists.{first_of, second_of, both_of, one_at, next_at}
 

@@ -16,7 +16,7 @@ use Rattle.v_values.specs.Kept.{is_sited_target}
 use Rattle.v_values.specs.Moments.{MomentValue}
 use Rattle.v_values.specs.Queues.{QueueValue}
 use Rattle.v_values.specs.Queues as queue
-use Rattle.v_machine.specs.Stepping.{Stepping}
+use Rattle.v_order.specs.Stepping.{Stepping}
 
 -- ---- sites
 

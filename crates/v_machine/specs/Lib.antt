@@ -1,3 +1,4 @@
-pub mod Stepping
 pub mod Executed
 pub mod Cases
+pub mod Runnable
+pub mod Machines

@@ -13,7 +13,7 @@ ghost use Rattle.v_values.specs.Moments.{fit};
 ghost use Rattle.v_values.specs.Queues as queues;
 ghost use Rattle.v_values.specs.Writes.{all_fit};
 ghost use Rattle.v_machine.specs.Executed.{all_acts_in, is_sited_stmt, stepping, write_count, write_counts};
-ghost use Rattle.v_machine.specs.Stepping.{finished};
+ghost use Rattle.v_order.specs.Stepping.{finished};
 
 use crate::cases::taken_arm;
 use v_core::{Typed, TypedStmt, TypedTarget};

@@ -6,6 +6,11 @@
 #![tactic(auto)]
 
 mod cases;
+mod cycling;
+mod edges;
 mod executing;
+mod machine;
+mod settling;
 
 pub use executing::execute;
+pub use machine::Machine;

@@ -12,7 +12,7 @@ use Rattle.v_core.proofs.statement.TypedArm.TheLaws as arm
 use Rattle.v_values.specs.Moments.{Shape, fit}
 use Rattle.v_values.specs.Writes.{all_fit}
 use Rattle.v_machine.specs.Executed.{acts_at, acts_of_arm, all_acts_in, is_sited_stmt, stepping, write_counts}
-use Rattle.v_machine.specs.Stepping.{Stepping, finished}
+use Rattle.v_order.specs.Stepping.{Stepping, finished}
 use Rattle.v_machine.proofs.Depths.{body_deeper, arms_deeper, arm_deeper}
 use Rattle.v_machine.proofs.Finishing.{finishes_next}
 use Rattle.v_machine.proofs.Lists.{next_is, one_of}

@@ -2,7 +2,7 @@ use Rattle.std.proofs.Common.{◌≡◌, ◌≤◌, ◌+◌, length, drop, true}
 use Rattle.v_meaning.specs.Acts.{sequence}
 use Rattle.v_values.specs.Writes.{all_fit}
 use Rattle.v_machine.specs.Executed.{all_acts_in, stepping, write_counts}
-use Rattle.v_machine.specs.Stepping.{finished}
+use Rattle.v_order.specs.Stepping.{finished}
 use Rattle.v_machine.proofs.executing.+executing.Given as goal
 
 abbrev pub invariant-execute_all-loop-one : goal.invariant-execute_all-loop-one

@@ -1,11 +1,10 @@
 -- The view of a cycle once its nets have settled, and how many bits words have.
-use Rattle.std.proofs.Common.{◌≡◌, ◌+◌, ap, sym, ◌∙◌, refl, arith, ℕ, suc, length, List, [], ◌∷◌, map, Bool, true, false, cond}
+use Rattle.std.proofs.Common.{◌≡◌, ◌+◌, ap, ◌∙◌, refl, arith, ℕ, suc, length, List, [], ◌∷◌, map, Bool, true, false, cond}
 use Rattle.std.specs.Prelude.{if◌then◌else◌, replicate}
 use Rattle.std.proofs.lemmas.List.Recursion.{is_count_by}
-use Rattle.lz_base.specs.declared.name.Port.{Port}
 use Rattle.v_meaning.specs.Views.{View}
 use Rattle.v_meaning.specs.Declarations.{count_of, is_input, is_settled}
-use Rattle.v_meaning.specs.Designs.{Assign, words_from}
+use Rattle.v_meaning.specs.Designs.{words_from}
 use Rattle.v_meaning.specs.Modules.{inputs_among, port_of}
 use Rattle.v_meaning.specs.declared.names.Kind.{Kind}
 use Rattle.v_meaning.specs.declared.names.Kind.TheVariants as k

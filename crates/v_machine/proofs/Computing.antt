@@ -1,6 +1,6 @@
 -- Nets that are computed one behind another.
-use Rattle.std.proofs.Common.{◌≡◌, ◌≤◌, ◌<◌, ◌+◌, ap, sym, ◌∙◌, refl, arith, ℕ, zero, suc, length, get_or, drop, take, ◌++◌, List, [], ◌∷◌, map, Bool, true}
-use Rattle.std.specs.Prelude.{◌%◌, ◌^◌, ◌==◌, ◌&&◌, Option, None, Some, slice_get, slice_index, slice_set, nat_le}
+use Rattle.std.proofs.Common.{◌≡◌, ◌≤◌, ◌<◌, ◌+◌, ap, sym, ◌∙◌, refl, arith, ℕ, zero, suc, length, get_or, drop, List, [], ◌∷◌, map, true}
+use Rattle.std.specs.Prelude.{◌%◌, ◌^◌, ◌==◌, Option, None, Some, slice_get, slice_index, slice_set, nat_le}
 use Rattle.std.proofs.lemmas.Bool.{eqb-true, leb-true}
 use Rattle.v_meaning.specs.Views.{View}
 use Rattle.v_meaning.specs.Designs.{Assign}

@@ -9,3 +9,6 @@ pub mod Stepped
 pub mod Beginning
 pub mod Runs
 pub mod Outcomes
+pub mod FirstLaws
+pub mod FirstWords
+pub mod TargetCounts

@@ -1,6 +1,5 @@
 -- What is known of a module that a machine can be made of, over the lists that its parts are read as.
-use Rattle.std.proofs.Common.{◌≡◌, ap, sym, ◌∙◌, ℕ, List, map, true}
-use Rattle.std.specs.Prelude.{◌&&◌}
+use Rattle.std.proofs.Common.{◌≡◌, ◌∙◌, ℕ, List, true}
 use Rattle.std.specs.List.{list_all}
 use Rattle.v_meaning.specs.declared.names.Entry.{Entry}
 use Rattle.v_core.specs.declared.modules.TypedAssign.{TypedAssign}

@@ -20,7 +20,7 @@ use Rattle.v_core.specs.FormedCores.{KeptIn, KeptArm, are_formed_items, formed_a
 use Rattle.v_core.specs.Sited.{SitedIn, is_sited}
 use Rattle.v_core.specs.Statements.{ActsIn, acts_in, acts_step, all_acts, arm_in_step, default_among, default_in, is_met_in, items_in, taken_in}
 use Rattle.v_machine.specs.Cases.{are_compared, are_kept_arms}
-use Rattle.v_machine.specs.Executed.{acts_of_arm, all_acts_in, are_sited_items, arm_count_step, arms_in, is_sited_stmt, sited_arm_step, sited_stmt_step, write_count, write_count_step, write_counts}
+use Rattle.v_machine.specs.Executed.{acts_of_arm, all_acts_in, are_sited_items, arm_count_step, arm_counts, arms_in, is_sited_stmt, sited_arm_step, sited_stmt_step, write_count, write_count_step, write_counts}
 use Rattle.v_order.specs.Stepping.{Stepping, finished}
 use Rattle.v_machine.proofs.Layers.{at_block, at_case}
 use Rattle.v_machine.proofs.Lists.{first_of, second_of, both_of, one_at, next_at}
@@ -143,6 +143,13 @@ one_count (b ∷ arms) (suc i) d h = omega (arith, one_count arms i d (omega ari
 pub body_count : (x : TypedStmt) (subject : Typed) (arms more : List TypedArm) (i : ℕ) (d : TypedArm) → x ≡ e.Case subject arms → more ≡ arms →
     i < length more → write_count (get_or more i d).body ≤ write_count x
 body_count x subject arms more i d is p within = omega (arith, one_count more i d within, at_case write_count_step arm_count_step x subject arms more is p)
+
+arms_counted : (arms : List TypedArm) → total (map count_of_arm arms) ≡ arm_counts arms
+arms_counted [] = refl
+arms_counted (a ∷ arms) = ap (λ (n : ℕ). write_count a.body + n) (arms_counted arms)
+
+pub case_count : (x : TypedStmt) (subject : Typed) (arms more : List TypedArm) → x ≡ e.Case subject arms → more ≡ arms → write_count x ≡ arm_counts more
+case_count x subject arms more is p = at_case write_count_step arm_count_step x subject arms more is p ∙ arms_counted more
 
 -- ---- the arm that is taken
 

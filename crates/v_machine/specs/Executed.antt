@@ -58,6 +58,10 @@ abbrev pub write_counts : List TypedStmt → ℕ
 write_counts [] = 0
 write_counts (x ∷ xs) = write_count x + write_counts xs
 
+abbrev pub arm_counts : List TypedArm → ℕ
+arm_counts [] = 0
+arm_counts (a ∷ arms) = write_count a.body + arm_counts arms
+
 -- ---- statements one after another
 
 abbrev pub all_acts_in : List TypedStmt → List Entry → List Acts

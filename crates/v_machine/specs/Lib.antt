@@ -2,3 +2,4 @@ pub mod Executed
 pub mod Cases
 pub mod Runnable
 pub mod Machines
+pub mod Firsts

@@ -2,7 +2,6 @@
 use Rattle.std.specs.Prelude.{◌≡◌, ℕ, ◌^◌, ◌+◌, ◌==◌, List, [], ◌∷◌, map, Bool, true, ◌&&◌, if◌then◌else◌, nat_lt, slice_index, Option, None, Some}
 use Rattle.std.specs.List.{list_all}
 use Rattle.lz_base.specs.declared.name.Port.{Port}
-use Rattle.v_meaning.specs.Designs.{Design}
 use Rattle.v_meaning.specs.Declarations.{is_input, is_settled, is_variable, is_memory}
 use Rattle.v_meaning.specs.declared.names.Kind.{Kind}
 use Rattle.v_meaning.specs.declared.names.Entry.{Entry}
@@ -67,12 +66,13 @@ is_word e = is_width e.width && fits_first e.width e.first
 -- ---- modules
 
 -- A module that breaks no rule, whose processes are all clocked, and an order in which its nets settle. All that is evaluated
--- keeps to its widths, each name has the word of its number, and each assign as many bits as its net.
+-- keeps to its widths, each name and each site has a word of its own, and each assign as many bits as its net.
 pub record CanRun (c : Core) (order : List ℕ) : Type 0 where
   pub formed : is_formed_core c ≡ true
   pub sited : is_sited_core c ≡ true
   pub named : fit (shape_of c) c.names ≡ true
   pub words : list_all is_word c.names ≡ true
+  pub places : list_all is_width (design_in c).sites ≡ true
   pub measured : list_all (is_measured (shape_of c)) c.assigns ≡ true
   pub clocked : (design_in c).combinational ≡ []
   pub settles : Settles (design_in c) order

@@ -6,10 +6,12 @@
 #![tactic(auto)]
 
 mod cases;
+mod counting;
 mod cycling;
 mod edges;
 mod executing;
 mod machine;
+mod making;
 mod settling;
 
 pub use executing::execute;

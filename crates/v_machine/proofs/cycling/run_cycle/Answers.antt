@@ -1,9 +1,7 @@
-use Rattle.std.proofs.Common.{◌≡◌, ◌≤◌, ap, sym, ◌∙◌, arith, ℕ, List, [], map}
+use Rattle.std.proofs.Common.{◌≡◌, ap, sym, ◌∙◌, arith, ℕ, [], map}
 use Rattle.v_meaning.specs.Names.{word_of}
-use Rattle.v_core.specs.declared.modules.TypedProcess.{TypedProcess}
 use Rattle.v_core.specs.Cores.{acts_where}
 use Rattle.v_core.specs.Values.{entry_at}
-use Rattle.v_values.specs.Moments.{Shape}
 use Rattle.v_order.specs.Stepping.{all_finished, next_of}
 use Rattle.v_machine.specs.Runnable.{process_counts, shape_of}
 use Rattle.v_machine.proofs.Beginning.{outputs_are}

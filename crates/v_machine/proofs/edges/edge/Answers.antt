@@ -1,4 +1,4 @@
-use Rattle.std.proofs.Common.{◌≡◌, ap, ◌∙◌, arith, length, List, true}
+use Rattle.std.proofs.Common.{ap, ◌∙◌, arith, length, List}
 use Rattle.v_meaning.specs.Views.{View, Write}
 use Rattle.v_core.specs.Cores.{acts_where}
 use Rattle.v_values.specs.Moments.{Shape}

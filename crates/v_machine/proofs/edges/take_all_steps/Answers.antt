@@ -1,4 +1,4 @@
-use Rattle.std.proofs.Common.{◌≡◌, ◌≤◌, ◌+◌, ap, sym, ◌∙◌, arith, length, true}
+use Rattle.std.proofs.Common.{◌≡◌, ap, sym, ◌∙◌, arith}
 use Rattle.v_core.specs.declared.modules.TypedProcess.{TypedProcess}
 use Rattle.v_core.specs.FormedCores.{is_formed_stmt}
 use Rattle.v_values.specs.Moments.{Shape, fit}

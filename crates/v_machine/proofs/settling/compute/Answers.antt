@@ -1,4 +1,4 @@
-use Rattle.std.proofs.Common.{◌≡◌, ◌<◌, ap, sym, subst, ◌∙◌, arith, ℕ, length, true}
+use Rattle.std.proofs.Common.{◌<◌, sym, subst, ◌∙◌, arith, ℕ, length}
 use Rattle.std.specs.Prelude.{◌^◌}
 use Rattle.v_core.specs.declared.modules.TypedAssign.{TypedAssign}
 use Rattle.v_core.specs.Formed.{formed}

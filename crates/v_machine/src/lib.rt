@@ -1,8 +1,10 @@
-//! The simulator of a typed module: what its statements do over the words of a moment.
+//! The simulator of a typed module, cycle by cycle.
 //!
-//! It stands on the typed form of `v_core`, whose meaning it computes, and on the moments and queues of `v_values`.
-//! Promised is: `execute` does exactly what the acts of a statement do that is carried out alone, from its first step to its
-//! end, and takes no memory.
+//! It stands on the typed form of `v_core`, whose meaning it computes, on the moments and queues of `v_values`, and on
+//! `v_order` for the law that in a cycle the nets need settle only once. Promised are: `Machine::new` begins in the first store
+//! of its choice, and `Machine::cycle` shows and leaves what the module does in a cycle in text order, under every complete
+//! schedule in that order; `execute` does what the acts of a statement do that takes all its steps alone. Only `new` takes
+//! memory.
 #![tactic(auto)]
 
 mod cases;

@@ -1,5 +1,5 @@
 -- How many bits choices have, one name after another.
-use Rattle.std.proofs.Common.{◌≡◌, ◌+◌, refl, arith, List, [], ◌∷◌, map}
+use Rattle.std.proofs.Common.{◌≡◌, ◌+◌, arith, List, [], ◌∷◌, map}
 use Rattle.v_meaning.specs.Designs.{open_bits_of, total}
 use Rattle.v_meaning.specs.Modules.{firsts_among}
 use Rattle.v_meaning.specs.declared.names.Kind.{Kind}

@@ -1,6 +1,6 @@
 -- Runs, one cycle after another.
-use Rattle.std.proofs.Common.{◌≡◌, ◌<◌, ◌≤◌, ◌+◌, ◌++◌, ap, sym, subst, ◌∙◌, refl, arith, ℕ, zero, suc, List, [], ◌∷◌, length, get_or, take, drop, Bool, append-nil}
-use Rattle.std.proofs.lemmas.List.{drop_more, length-map, take_all}
+use Rattle.std.proofs.Common.{◌≡◌, ◌<◌, ◌≤◌, ◌+◌, ◌^◌, ◌++◌, ap, sym, subst, ◌∙◌, refl, arith, ℕ, zero, suc, List, [], ◌∷◌, length, get_or, take, drop, Bool, append-nil}
+use Rattle.std.proofs.lemmas.List.{drop_more, length-map, take_all, take_more}
 use Rattle.std.proofs.lemmas.Grind.{common_steps}
 use Rattle.lz_base.specs.WordValue.{WordValue}
 use Rattle.lz_base.specs.declared.name.Port.{Port}
@@ -57,6 +57,31 @@ pub cycle_there : (widths : List ℕ) (cycles : List (List WordValue)) (i : ℕ)
 cycle_there widths [] i words fit within is = absurd (omega arith)
 cycle_there widths (c ∷ cycles) zero words fit within is = rw is fit.0
 cycle_there widths (c ∷ cycles) (suc i) words fit within is = cycle_there widths cycles i words fit.1 (omega arith) is
+
+-- one word more that keeps to its width
+pub keep_more : (words : List WordValue) (w : WordValue) → FitWidths (widths_of words) words → w.value < 2 ^ w.width → FitWidths (widths_of (words ++ w ∷ [])) (words ++ w ∷ [])
+keep_more [] w fit below = (refl, below, tt)
+keep_more (x ∷ words) w fit below = (fit.0, fit.1, keep_more words w fit.2 below)
+
+-- the same behind the words before an index
+pub keep_next : (words : List WordValue) (i : ℕ) (w : WordValue) → i < length words → w ≡ get_or words i w → FitWidths (widths_of (take i words)) (take i words) → w.value < 2 ^ w.width →
+    FitWidths (widths_of (take (i + 1) words)) (take (i + 1) words)
+keep_next words i w within is fit below =
+    let more : take (i + 1) words ≡ take i words ++ w ∷ [] = take_more words i w within ∙ ap (λ (v : WordValue). take i words ++ v ∷ []) (sym is) in
+    rw more (keep_more (take i words) w fit below)
+
+-- words that keep to widths which these are
+pub fits_ports : (words seen : List WordValue) (widths : List ℕ) → seen ≡ words → widths_of words ≡ widths → FitWidths (widths_of seen) seen → FitWidths widths words
+fits_ports words seen widths is widths_are fit =
+    subst (λ (ns : List ℕ). FitWidths ns words) widths_are (subst (λ (ws : List WordValue). FitWidths (widths_of ws) ws) is fit)
+
+-- one cycle more whose words fit
+pub cycles_more : (widths : List ℕ) (cycles pushed : List (List WordValue)) (words : List WordValue) → pushed ≡ cycles ++ words ∷ [] → CyclesFit widths cycles → FitWidths widths words → CyclesFit widths pushed
+cycles_more widths cycles pushed words push fit fits = subst (CyclesFit widths) (sym push) (joined widths cycles words fit fits)
+  where
+    joined : (widths : List ℕ) (cycles : List (List WordValue)) (words : List WordValue) → CyclesFit widths cycles → FitWidths widths words → CyclesFit widths (cycles ++ words ∷ [])
+    joined widths [] words fit fits = (fits, tt)
+    joined widths (c ∷ cycles) words fit fits = (fit.0, joined widths cycles words fit.1 fits)
 
 -- ---- runs
 

@@ -8,7 +8,7 @@ ghost use Rattle.v_machine.specs.Runnable.{CanRun, is_word, port_widths};
 ghost use Rattle.v_meaning.specs.Designs.{InTextOrder, cycle_bits, first_bits};
 ghost use Rattle.v_run.specs.Runs.{RunsFrom, RunsInTextOrder, Shows};
 
-use crate::widths::zeros;
+use crate::widths::{keep, zeros};
 use lz_base::{Items, OutOfMemory, Word};
 use std::alloc::Global;
 use t_choices::Choices;
@@ -29,11 +29,14 @@ fn cycle(
     requires input { FitWidths (port_widths (design_in core.now).inputs) input.now }
     requires choice { HasBits (cycle_bits (design_in core.now)) choice.now }
     ensures same { machine.new.core ≡ core.now }
+    ensures fits { IfOk result (λ out. FitWidths (port_widths (design_in core.now).outputs) out) }
     ensures shows { IfOk result (λ out. Shows InTextOrder (design_in core.now) machine.old.store input.now choice.now out machine.new.store) }
 {
     let mut out = zeros(alloc, core.names.as_slice(), core.outputs.as_slice())?;
     machine.cycle(input, choice, out.as_mut_slice());
-    Ok(Items::from_vec(out))
+    let words = Items::from_vec(out);
+    keep(words.as_slice());
+    Ok(words)
 }
 
 // What the cycles show, one after another.
@@ -49,7 +52,8 @@ fn run(
     requires inputs { CyclesFit (port_widths (design_in core.now).inputs) inputs.now }
     requires choices { Each (HasBits (cycle_bits (design_in core.now))) choices.now }
     requires many { length choices.now ≡ length inputs.now }
-    ensures { IfOk result (λ trace. RunsFrom InTextOrder (design_in core.now) machine.old.store inputs.now choices.now trace) }
+    ensures fits { IfOk result (λ trace. CyclesFit (port_widths (design_in core.now).outputs) trace) }
+    ensures runs { IfOk result (λ trace. RunsFrom InTextOrder (design_in core.now) machine.old.store inputs.now choices.now trace) }
 {
     let mut trace = Items::new(alloc);
     let mut left = choices;
@@ -86,7 +90,8 @@ pub fn trace(
     requires first { HasBits (first_bits (design_in core.now)) choices.now.first }
     requires cycles { Each (HasBits (cycle_bits (design_in core.now))) choices.now.cycles }
     requires many { length choices.now.cycles ≡ length stimulus.now.cycles }
-    ensures { IfOk result (λ t. RunsInTextOrder (design_in core.now) choices.now stimulus.now.cycles t.cycles) }
+    ensures fits { IfOk result (λ t. CyclesFit (port_widths (design_in core.now).outputs) t.cycles) }
+    ensures runs { IfOk result (λ t. RunsInTextOrder (design_in core.now) choices.now stimulus.now.cycles t.cycles) }
 {
     let mut machine = Machine::new(alloc, core, order, choices.first.as_slice())?;
     let cycles = run(

@@ -1,6 +1,6 @@
 ghost use Rattle.std.specs.Prelude.{◌≡◌, ◌≤◌, map, true, IfOk};
 ghost use Rattle.std.specs.List.{list_all};
-ghost use Rattle.t_trace.specs.Widths.{AreWidths};
+ghost use Rattle.t_trace.specs.Widths.{AreWidths, FitWidths};
 ghost use Rattle.v_core.specs.Cores.{design_in};
 ghost use Rattle.v_core.specs.Values.{entry_at};
 ghost use Rattle.v_machine.specs.Runnable.{is_word, port_widths};
@@ -70,4 +70,13 @@ pub(crate) fn zeros(
         words.push(Word::new(width_at(names, *output), 0))?;
     }
     Ok(words)
+}
+
+/// Law of words: each keeps to its width, as its type says.
+pub(crate) fn keep(words: &[Word])
+    ensures { FitWidths (widths_of words.now) words.now }
+{
+    for word in words {
+        let _value = word.value;
+    }
 }

@@ -12,3 +12,5 @@ pub mod Outcomes
 pub mod FirstLaws
 pub mod FirstWords
 pub mod TargetCounts
+pub mod NumberedWords
+pub mod Accepted

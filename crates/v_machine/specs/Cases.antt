@@ -1,4 +1,4 @@
--- Arms of a case whose items can be compared (1364-2005, 9.5).
+-- Arms of a case whose items can be compared (1364-2005, 9.5). No public clause names these.
 use Rattle.std.specs.Prelude.{ℕ, List, Bool, ◌&&◌}
 use Rattle.std.specs.List.{list_all}
 use Rattle.v_meaning.specs.declared.names.Entry.{Entry}

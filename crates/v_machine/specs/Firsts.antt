@@ -1,4 +1,5 @@
--- What the words of a module are before the first cycle, name by name (1364-2005, 6.2.1).
+-- What the words of a module are before the first cycle, name by name (1364-2005, 6.2.1). No public clause names these.
+-- They are shown to be `first_store`.
 use Rattle.std.specs.Prelude.{ℕ, ◌*◌, List, [], ◌∷◌, ◌++◌, Bool, true, false, Option, None, Some, replicate, reverse, take}
 use Rattle.lz_base.specs.Bits.{number_of}
 use Rattle.v_meaning.specs.Designs.{words_from}

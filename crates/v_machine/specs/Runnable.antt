@@ -4,6 +4,7 @@ use Rattle.std.specs.List.{list_all}
 use Rattle.lz_base.specs.declared.name.Port.{Port}
 use Rattle.v_meaning.specs.Declarations.{is_input, is_settled, is_variable, is_memory}
 use Rattle.v_meaning.specs.declared.names.Kind.{Kind}
+use Rattle.v_meaning.specs.declared.names.Kind.TheVariants.{Parameter}
 use Rattle.v_meaning.specs.declared.names.Entry.{Entry}
 use Rattle.v_core.specs.declared.modules.TypedAssign.{TypedAssign}
 use Rattle.v_core.specs.declared.modules.TypedProcess.{TypedProcess}
@@ -35,6 +36,14 @@ shape_of c = record {
 
 abbrev pub port_widths : List Port → List ℕ
 port_widths ports = map (λ (p : Port). p.width) ports
+
+-- a parameter keeps to its width
+abbrev pub keeps_value : Kind → ℕ → Bool
+keeps_value (Parameter value) width = nat_lt value (2 ^ width)
+keeps_value _ width = true
+
+abbrev pub keeps_parameter : Entry → Bool
+keeps_parameter e = keeps_value e.kind e.width
 
 -- ---- what is evaluated
 
@@ -77,3 +86,12 @@ pub record CanRun (c : Core) (order : List ℕ) : Type 0 where
   pub clocked : (design_in c).combinational ≡ []
   pub settles : Settles (design_in c) order
   pub steady : (b : AtOnce) × IsSteady (design_in c) order b
+
+-- A typed module all of whose values, statements and names keep to words of 1 to 128 bits.
+pub record KeepsWords (c : Core) : Type 0 where
+  pub formed : is_formed_core c ≡ true
+  pub sited : is_sited_core c ≡ true
+  pub words : list_all is_word c.names ≡ true
+  pub parameters : list_all keeps_parameter c.names ≡ true
+  pub places : list_all is_width (design_in c).sites ≡ true
+  pub measured : list_all (is_measured (shape_of c)) c.assigns ≡ true

@@ -12,9 +12,11 @@ mod counting;
 mod cycling;
 mod edges;
 mod executing;
+mod law;
 mod machine;
 mod making;
 mod settling;
 
 pub use executing::execute;
+pub use law::{accepted_modules_run, numbered_names_fit};
 pub use machine::Machine;

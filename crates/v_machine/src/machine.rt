@@ -1,8 +1,9 @@
 ghost use Rattle.std.specs.Prelude.{◌≡◌, length, IfOk};
+ghost use Rattle.v_meaning.specs.Declarations.{is_memory, is_variable};
 ghost use Rattle.v_meaning.specs.Designs.{InTextOrder, IsOutcome, cycle_bits, first_bits, first_store};
 ghost use Rattle.v_core.specs.Cores.{design_in};
-ghost use Rattle.v_values.specs.Seen.{all_words, values_of, widths_of};
-ghost use Rattle.v_machine.specs.Runnable.{CanRun, port_widths};
+ghost use Rattle.v_values.specs.Seen.{all_widths, all_words, values_of, widths_of};
+ghost use Rattle.v_machine.specs.Runnable.{CanRun, port_widths, widths_where};
 
 use crate::counting::process_writes;
 use crate::cycling::run_cycle;
@@ -68,14 +69,16 @@ impl<'a> Machine<'a> {
 
     /// What the variables hold that are not combinational, in the order of their declarations. It takes no memory.
     pub fn variables(&self) -> &[Word]
-        ensures { values_of result.now ≡ self.now.store.variables }
+        ensures values { values_of result.now ≡ self.now.store.variables }
+        ensures widths { widths_of result.now ≡ widths_where is_variable self.now.core.names }
     {
         self.moment.variables.as_slice()
     }
 
     /// What the memories hold, in the order of their declarations. It takes no memory.
     pub fn memories(&self) -> &[Memory]
-        ensures { all_words result.now ≡ self.now.store.memories }
+        ensures words { all_words result.now ≡ self.now.store.memories }
+        ensures widths { all_widths result.now ≡ widths_where is_memory self.now.core.names }
     {
         self.moment.memories.as_slice()
     }

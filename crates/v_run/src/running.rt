@@ -61,13 +61,7 @@ fn run(
         let Some((choice, rest)) = left.split_first() else {
             unreachable!();
         };
-        trace.push(cycle(
-            alloc,
-            core,
-            machine,
-            input.as_slice(),
-            choice.as_slice(),
-        )?)?;
+        trace.push(cycle(alloc, core, machine, input.as_slice(), choice.as_slice())?)?;
         left = rest;
     }
     Ok(trace)

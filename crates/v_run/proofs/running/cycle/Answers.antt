@@ -23,7 +23,7 @@ returns c =
     let many : length c.in_ok-out.out.items ≡ c.in_ok-out.out.len = subst (λ (ws : List WordValue). length ws ≡ c.in_ok-out.out.len) c.as_mut_slice.ensures.value c.as_mut_slice.ensures.len in
     let written = c.from_vec-words.ensures ∙ written_over c.cycle.new.out c.in_ok-out.out.items c.in_ok-out.out.len kept many in
     let outcome = subst (λ (core : Core). IsOutcome InTextOrder (design_in core) c.args.machine.now.store (values_of c.args.input.now) c.args.choice.now (values_of c.cycle.new.out) c.cycle.new.self.store) c.requires.same
-        c.cycle.ensures.outcome in
+    c.cycle.ensures.outcome in
     record {
       same = c.cycle.ensures.core ∙ c.requires.same;
       fits = fits_ports c.from_vec-words.result c.as_slice-3.result.now _ c.as_slice-3.ensures (ap widths_of written ∙ kept ∙ made) c.keep.ensures;

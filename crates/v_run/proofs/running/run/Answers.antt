@@ -30,4 +30,4 @@ loop-input-preserved c =
 pub returns-clause-runs : goal.returns-clause-runs
 returns-clause-runs c =
     run_ends InTextOrder (design_in c.args.core.now) c.args.machine.now.store c.args.inputs.now c.args.choices.now c.loop-input.trace c.loop-input.machine.store c.loop-input.input-index c.loop-input.left.now
-        c.loop-input-test.false (omega (arith, c.loop-input.invariant.many, c.loop-input-test.false)) c.loop-input.invariant.leads
+    c.loop-input-test.false (omega (arith, c.loop-input.invariant.many, c.loop-input-test.false)) c.loop-input.invariant.leads

@@ -7,9 +7,11 @@
 #![tactic(auto)]
 
 mod choosing;
+mod reading;
 mod running;
 mod widths;
 
 pub use choosing::{cycle_bits, first_bits};
+pub use reading::{choices_for, inputs_for, stimulus_for};
 pub use running::trace;
 pub use widths::input_widths;

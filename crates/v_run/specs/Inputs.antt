@@ -1,5 +1,5 @@
 -- The texts of a stimulus and of choices, for a design.
-use Rattle.std.specs.Prelude.{◌≡◌, ◌⊎◌, ℕ, List, length}
+use Rattle.std.specs.Prelude.{◌⊎◌, ℕ, List, length}
 use Rattle.lz_base.specs.WordValue.{WordValue}
 use Rattle.lz_base.specs.declared.fault.Fault.{Fault}
 use Rattle.lz_base.specs.declared.rule.Rule.TheVariants.{C1, T1}

@@ -1,4 +1,4 @@
-ghost use Rattle.std.specs.Prelude.{◌≡◌, ℕ, List, length, true, IfOk};
+ghost use Rattle.std.specs.Prelude.{◌≡◌, List, true, IfOk};
 ghost use Rattle.std.specs.List.{list_all};
 ghost use Rattle.lz_base.specs.Answers.{Answers, IfFault};
 ghost use Rattle.lz_base.specs.WordValue.{WordValue};

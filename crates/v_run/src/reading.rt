@@ -36,12 +36,7 @@ pub fn stimulus_for(alloc: Global, core: &Core, bytes: &[u8]) -> Result<Stimulus
 /// The choices whose text the bytes are, for the bits that a module leaves open and so many cycles. The fault C1 comes exactly
 /// where they are no such text, and its place is the length of the longest front of the bytes with which some such text
 /// begins. `OutOfMemory` is the only other answer.
-pub fn choices_for(
-    alloc: Global,
-    core: &Core,
-    cycles: usize,
-    bytes: &[u8],
-) -> Result<Choices, Stop>
+pub fn choices_for(alloc: Global, core: &Core, cycles: usize, bytes: &[u8]) -> Result<Choices, Stop>
     ensures found { IfOk result (λ c. IsChoices (first_bits (design_in core.now)) (cycle_bits (design_in core.now)) cycles c bytes.now) }
     ensures only { (choices : Choices) → IsChoices (first_bits (design_in core.now)) (cycle_bits (design_in core.now)) cycles choices bytes.now → Answers (λ c. c) result choices }
     ensures fault { IfFault result (IsUnreadable (IsChoices (first_bits (design_in core.now)) (cycle_bits (design_in core.now)) cycles) C1 bytes.now) }

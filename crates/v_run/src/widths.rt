@@ -72,7 +72,7 @@ pub(crate) fn zeros(
     Ok(words)
 }
 
-/// Law of words: each keeps to its width, as its type says.
+/// Law of words: each keeps to its width, as its type says. It reads them and does nothing else.
 pub(crate) fn keep(words: &[Word])
     ensures { FitWidths (widths_of words.now) words.now }
 {

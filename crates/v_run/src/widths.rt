@@ -56,7 +56,7 @@ fn width_at(names: &[Entry], number: u32) -> u32
     }
 }
 
-/// A word of 0 for each output.
+/// A word for each output, which has its width.
 pub(crate) fn zeros(
     alloc: Global,
     names: &[Entry],

@@ -12,6 +12,13 @@ pub struct Trail {
     touched: Vec<u32>,
 }
 
+// Whether the leaves of a cut come to be read, or are read no longer.
+#[derive(Clone, Copy)]
+enum Way {
+    Take,
+    Give,
+}
+
 /// How many tables a walk met, and whether it came to its end.
 #[derive(Clone, Copy)]
 pub struct Walk {
@@ -75,6 +82,33 @@ impl Trail {
         Ok(last)
     }
 
+    // Reads the leaves of a cut, and goes on with those of the gates behind them, in at most so many steps.
+    fn walk(
+        &mut self,
+        nodes: &[Node],
+        cover: &mut Cover,
+        cut: &Cut,
+        steps: u32,
+        way: Way,
+    ) -> Result<Walk, OutOfMemory> {
+        self.begin(cut)?;
+        let mut tables = 0u32;
+        for _step in 0..steps {
+            match self.ahead.pop() {
+                Some(number) => {
+                    let changed = match way {
+                        Way::Take => self.take_node(nodes, cover, number)?,
+                        Way::Give => self.give_node(nodes, cover, number)?,
+                    };
+                    tables = tables.saturating_add(changed as u32);
+                }
+                None => break,
+            }
+        }
+        let complete = self.ahead.is_empty();
+        Ok(Walk { tables, complete })
+    }
+
     /// Reads the leaves of a cut, and those of each gate that comes to be needed, in at most so many steps.
     pub fn take(
         &mut self,
@@ -83,19 +117,7 @@ impl Trail {
         cut: &Cut,
         steps: u32,
     ) -> Result<Walk, OutOfMemory> {
-        self.begin(cut)?;
-        let mut tables = 0u32;
-        for _step in 0..steps {
-            match self.ahead.pop() {
-                Some(number) => {
-                    let new = self.take_node(nodes, cover, number)?;
-                    tables = tables.saturating_add(new as u32);
-                }
-                None => break,
-            }
-        }
-        let complete = self.ahead.is_empty();
-        Ok(Walk { tables, complete })
+        self.walk(nodes, cover, cut, steps, Way::Take)
     }
 
     /// Reads the leaves of a cut no longer, nor those of each gate that is no longer needed, in at most so many steps.
@@ -106,19 +128,7 @@ impl Trail {
         cut: &Cut,
         steps: u32,
     ) -> Result<Walk, OutOfMemory> {
-        self.begin(cut)?;
-        let mut tables = 0u32;
-        for _step in 0..steps {
-            match self.ahead.pop() {
-                Some(number) => {
-                    let last = self.give_node(nodes, cover, number)?;
-                    tables = tables.saturating_add(last as u32);
-                }
-                None => break,
-            }
-        }
-        let complete = self.ahead.is_empty();
-        Ok(Walk { tables, complete })
+        self.walk(nodes, cover, cut, steps, Way::Give)
     }
 
     /// Undoes what `take` did.

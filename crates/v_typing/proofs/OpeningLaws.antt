@@ -68,8 +68,7 @@ module _ (widths places : List ℕ) (names : List Entry) where
   pub read_select : (x index i : Expr) (n : Ident) (bracket : ℕ) → x ≡ e.Select n bracket index → i ≡ index → IsRead widths places names x →
       (nat_le (slice_index widths (number_of_place places n.at)) (selected_width (entry_of names n.name).kind (entry_of names n.name).width) ≡ true) × IsRead widths places names i
   read_select x index i n bracket is p h =
-      let all = subst (AreRead widths places) (ap (openings_of names) (is ∙ sym (e.rolls-Select n bracket index)) ∙ para-roll-Expr (List Site) (opening_step names) (o.Select n bracket index)) h in
-      (
+      let all = subst (AreRead widths places) (ap (openings_of names) (is ∙ sym (e.rolls-Select n bracket index)) ∙ para-roll-Expr (List Site) (opening_step names) (o.Select n bracket index)) h in (
         no_more (is_fixed names (entry_of names n.name) index) (entry_of names n.name).kind (entry_of names n.name) _ (All-head reads _ (openings_of names index) all),
         subst (IsRead widths places names) (sym p) (All-tail reads _ (openings_of names index) all),
       )
@@ -82,8 +81,7 @@ module _ (widths places : List ℕ) (names : List Entry) where
       let all =
       subst (AreRead widths places)
       (ap (openings_of names) (is ∙ sym (e.rolls-Conditional c a b)) ∙ para-roll-Expr (List Site) (opening_step names) (o.Conditional c a b)) h in
-      let first_two = front reads (openings_of names c ++ openings_of names a) (openings_of names b) all in
-      (
+      let first_two = front reads (openings_of names c ++ openings_of names a) (openings_of names b) all in (
         subst (IsRead widths places names) (sym p) (front reads (openings_of names c) (openings_of names a) first_two),
         subst (IsRead widths places names) (sym q) (back reads (openings_of names c) (openings_of names a) first_two),
         subst (IsRead widths places names) (sym r) (back reads (openings_of names c ++ openings_of names a) (openings_of names b) all),
@@ -103,8 +101,7 @@ module _ (widths places : List ℕ) (names : List Entry) where
   read_chain x a b links more is p q h =
       let opens : openings_of names x ≡ openings_of names a ++ links_openings links =
       ap (openings_of names) (is ∙ sym (e.rolls-Chain a links)) ∙ para-roll-Expr (List Site) (opening_step names) (o.Chain a links) in
-      let all = subst (AreRead widths places) opens h in
-      (
+      let all = subst (AreRead widths places) opens h in (
         subst (IsRead widths places names) (sym p) (front reads (openings_of names a) (links_openings links) all),
         subst (LinksRead widths places names) (sym q) (links_read links (back reads (openings_of names a) (links_openings links) all)),
       )

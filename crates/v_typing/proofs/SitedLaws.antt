@@ -1,13 +1,11 @@
 -- The sites of open expressions are those of their operands.
-use Rattle.std.proofs.Common.{◌≡◌, ap, sym, ◌∙◌, refl, ℕ, List, [], ◌∷◌, ◌++◌, Bool, true, false}
+use Rattle.std.proofs.Common.{◌≡◌, ap, sym, ◌∙◌, refl, ℕ, List, [], ◌∷◌, ◌++◌, true}
 use Rattle.std.specs.Prelude.{◌&&◌, nat_le, slice_index}
-use Rattle.std.specs.List.{list_all}
 use Rattle.std.proofs.lemmas.List.Folds.{list_all-append}
 use Rattle.v_syntax.specs.declared.expr.UnaryOperator.{UnaryOperator}
 use Rattle.v_meaning.specs.declared.names.Entry.{Entry}
 use Rattle.v_meaning.specs.Expressions.{number_of_place}
 use Rattle.v_core.specs.declared.typed.Typed.{Typed}
-use Rattle.v_core.specs.declared.open.Open.{Open}
 use Rattle.v_core.specs.declared.open.Body.{Body}
 use Rattle.v_core.specs.declared.open.Body.TheVariants as e
 use Rattle.v_core.specs.declared.open.Body.TheOpen as o
@@ -15,7 +13,6 @@ use Rattle.v_core.specs.declared.open.Body.TheFolds.{fold-roll-Body}
 use Rattle.v_core.specs.Values.{entry_at}
 use Rattle.v_core.specs.Formed.{selected_width}
 use Rattle.v_core.specs.Sited.{SitedIn, is_sited, are_sited_parts, sited_body_step, is_sited_body}
-use Rattle.v_typing.specs.Sited.{OpenSited}
 use Rattle.v_typing.proofs.KeepLaws.{both}
 
 -- both of two

@@ -10,6 +10,7 @@ ghost use Rattle.v_core.specs.FormedCores.{is_formed_core};
 ghost use Rattle.v_names.specs.Words.{AreWords};
 ghost use Rattle.v_typing.specs.Sound.{are_sound_items};
 ghost use Rattle.v_sites.specs.Found.{site_in};
+ghost use Rattle.v_typed.specs.Forms.{are_measured};
 
 use crate::copying::{copy_of, site_places};
 use crate::parts::parts_of;
@@ -38,6 +39,7 @@ pub fn typed(alloc: Global, names: &Names, module: &Module) -> Result<Core, OutO
     ensures sites { IfOk result (λ core. map site_in core.sites ≡ module_sites names.now «module».now.items) }
     ensures form { IfOk result (λ core. is_formed_core core ≡ true) }
     ensures words { IfOk result (λ core. AreWords core.names) }
+    ensures measured { IfOk result (λ core. are_measured core.names core.assigns ≡ true) }
 {
     let found = sites(alloc, names, module)?;
     let places = site_places(alloc, found.as_slice())?;
@@ -67,6 +69,7 @@ pub fn elaborate(alloc: Global, module: &Module) -> Result<Core, Stop>
     ensures sites { IfOk result (λ core. map site_in core.sites ≡ module_sites (names_of «module».now) «module».now.items) }
     ensures form { IfOk result (λ core. is_formed_core core ≡ true) }
     ensures words { IfOk result (λ core. AreWords core.names) }
+    ensures measured { IfOk result (λ core. are_measured core.names core.assigns ≡ true) }
 {
     let names = declared_names(alloc, module)?;
     Ok(typed(alloc, &names, module)?)

@@ -28,3 +28,6 @@ returns-clause-design c =
 pub returns-clause-form : goal.returns-clause-form
 returns-clause-form c =
     rw c.in_ok-entries.ensures.copy (λ i. c.in_ok-parts.ensures.formed_assigns i && c.in_ok-parts.ensures.formed_processes i)
+
+pub returns-clause-measured : goal.returns-clause-measured
+returns-clause-measured c = rw c.in_ok-entries.ensures.copy c.in_ok-parts.ensures.measured

@@ -1,4 +1,5 @@
 ghost use Rattle.std.specs.Prelude.{◌≡◌, None, Some, IfOk, true, map};
+ghost use Rattle.std.specs.List.{list_all};
 ghost use Rattle.lz_base.specs.Answers.{IfFault};
 ghost use Rattle.v_syntax.specs.declared.module.Module.{Module};
 ghost use Rattle.v_meaning.specs.Broken.{places_of, first_fault, typing_rules};
@@ -6,6 +7,7 @@ ghost use Rattle.v_meaning.specs.Declarations.{names_of};
 ghost use Rattle.v_meaning.specs.Sites.{module_sites};
 ghost use Rattle.v_meaning.specs.Modules.{design_of};
 ghost use Rattle.v_core.specs.Cores.{design_in};
+ghost use Rattle.v_core.specs.Formed.{is_width};
 ghost use Rattle.v_core.specs.FormedCores.{is_formed_core};
 ghost use Rattle.v_names.specs.Words.{AreWords};
 ghost use Rattle.v_typing.specs.Sound.{are_sound_items};
@@ -40,6 +42,7 @@ pub fn typed(alloc: Global, names: &Names, module: &Module) -> Result<Core, OutO
     ensures form { IfOk result (λ core. is_formed_core core ≡ true) }
     ensures words { IfOk result (λ core. AreWords core.names) }
     ensures measured { IfOk result (λ core. are_measured core.names core.assigns ≡ true) }
+    ensures places { IfOk result (λ core. list_all is_width (design_in core).sites ≡ true) }
 {
     let found = sites(alloc, names, module)?;
     let places = site_places(alloc, found.as_slice())?;
@@ -70,6 +73,7 @@ pub fn elaborate(alloc: Global, module: &Module) -> Result<Core, Stop>
     ensures form { IfOk result (λ core. is_formed_core core ≡ true) }
     ensures words { IfOk result (λ core. AreWords core.names) }
     ensures measured { IfOk result (λ core. are_measured core.names core.assigns ≡ true) }
+    ensures places { IfOk result (λ core. list_all is_width (design_in core).sites ≡ true) }
 {
     let names = declared_names(alloc, module)?;
     Ok(typed(alloc, &names, module)?)

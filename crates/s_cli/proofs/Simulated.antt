@@ -1,5 +1,5 @@
 -- The status that a netlist and a stimulus call for.
-use Rattle.std.proofs.Common.{◌≡◌, ◌⊎◌, ◌≤◌, ℕ, List, [], ◌∷◌, length, Option, None, Some, Result, Ok, Err, Vec, refl, ap, arith, inl, inr, ◌∙◌}
+use Rattle.std.proofs.Common.{◌≡◌, ◌≤◌, ℕ, List, [], ◌∷◌, length, Option, Some, Result, Ok, Err, Vec, refl, arith, inl, inr, ◌∙◌}
 use Rattle.std.specs.Prelude.{⊤, IfOk}
 use Rattle.std.specs.declared.alloc.Global.{Global}
 use Rattle.lz_base.specs.Answers.{Answers, IfFault}
@@ -20,7 +20,7 @@ use Rattle.s_cli.specs.declared.forms.Command.TheVariants as command
 use Rattle.s_cli.specs.declared.status.Status.TheVariants as status
 use Rattle.s_cli.specs.Answers.{Decides}
 use Rattle.s_cli.specs.Reading.{Reads, Drives}
-use Rattle.s_cli.specs.Simulation.{IsNetlist, IsStimulus, IsSimulation, IsNetlistFault, IsStimulusFault, IsUnsimulated, AreJudged}
+use Rattle.s_cli.specs.Simulation.{IsStimulus, IsSimulation, IsStimulusFault, IsUnsimulated, AreJudged}
 use Rattle.s_cli.specs.Texts.{IsWhole}
 
 pub are_judged_memory : (a b : List ℕ) → AreJudged a b status.OutOfMemory

@@ -1,5 +1,5 @@
 -- The status that a netlist of format 1 calls for.
-use Rattle.std.proofs.Common.{◌≡◌, ℕ, List, [], ◌∷◌, length, Option, Result, Ok, Err, Vec, refl, inl, inr}
+use Rattle.std.proofs.Common.{◌≡◌, ℕ, List, [], ◌∷◌, length, Option, Ok, Err, Vec, refl, inl, inr}
 use Rattle.std.specs.Prelude.{◌↔◌, Bool}
 use Rattle.std.specs.declared.alloc.Global.{Global}
 use Rattle.lz_base.specs.Limits.{text_limit}

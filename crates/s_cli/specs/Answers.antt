@@ -1,6 +1,5 @@
 -- What the top call answers to each form of words, by what stands in the named files.
-use Rattle.std.specs.Prelude.{◌≡◌, ℕ, List, [], ◌∷◌, Option, None, Some, Result, Ok, Err, Vec, ⊤}
-use Rattle.std.specs.declared.alloc.Global.{Global}
+use Rattle.std.specs.Prelude.{◌≡◌, ℕ, List, [], ◌∷◌, Option, None, Some, Result, Ok, Err, ⊤}
 use Rattle.lz_base.specs.Outside.{Told}
 use Rattle.lz_base.specs.declared.fault.Fault.{Fault}
 use Rattle.lz_base.specs.declared.fault.Stop.{Stop}

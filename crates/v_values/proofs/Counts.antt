@@ -1,11 +1,12 @@
 -- How many writes targets make.
 use Rattle.std.proofs.Common.{◌≡◌, ◌+◌, ap, sym, ◌∙◌, refl, ℕ, List, [], ◌∷◌, map, Bool}
+use Rattle.v_meaning.specs.Designs.{total}
 use Rattle.v_core.specs.declared.typed.Typed.{Typed}
 use Rattle.v_core.specs.declared.statement.TypedTarget.{TypedTarget}
 use Rattle.v_core.specs.declared.statement.TypedTarget.TheVariants as t
 use Rattle.v_core.specs.declared.statement.TypedTarget.TheOpen as o
 use Rattle.v_core.specs.declared.statement.TypedTarget.TheFolds.{fold-roll-TypedTarget}
-use Rattle.v_values.specs.Queues.{write_counts, write_count, write_count_step, total}
+use Rattle.v_values.specs.Queues.{write_counts, write_count, write_count_step}
 
 pub part_count : (x : TypedTarget) (name at low w : ℕ) → x ≡ t.Part name at low w → write_count x ≡ 1
 part_count x name at low w is = ap write_count (is ∙ sym (t.rolls-Part name at low w)) ∙ fold-roll-TypedTarget ℕ write_count_step (o.Part name at low w)

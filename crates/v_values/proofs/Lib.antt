@@ -11,3 +11,4 @@ pub mod TargetTurns
 pub mod TargetFits
 pub mod Counts
 pub mod Waiting
+pub mod Filling

@@ -1,5 +1,6 @@
 -- Writes that wait, and how many of them a target makes (1364-2005, 9.2.2 and 11.4.1).
 use Rattle.std.specs.Prelude.{ℕ, ◌+◌, List, [], ◌∷◌}
+use Rattle.v_meaning.specs.Designs.{total}
 use Rattle.v_meaning.specs.Views as view
 use Rattle.v_core.specs.declared.statement.TypedTarget.{TypedTarget}
 use Rattle.v_core.specs.declared.statement.TypedTarget.TheOpen.{TypedTarget-F}
@@ -10,10 +11,6 @@ use Rattle.v_core.specs.declared.statement.TypedTarget.TheFolds.{fold-TypedTarge
 pub record QueueValue : Type 0 where
   pub writes : List view.Write
   pub room : ℕ
-
-abbrev pub total : List ℕ → ℕ
-total [] = 0
-total (n ∷ ns) = n + total ns
 
 -- how many writes a target makes at most: one for each part
 abbrev pub write_count_step : TypedTarget-F ℕ → ℕ

@@ -1,4 +1,5 @@
-ghost use Rattle.std.specs.Prelude.{◌≡◌, ◌<◌, ◌^◌, [], ◌∷◌, slice_index, true};
+ghost use Rattle.std.specs.Prelude.{◌≡◌, ◌<◌, ◌^◌, [], ◌∷◌, length, replicate, slice_index, slice_set, true};
+ghost use Rattle.v_meaning.specs.Designs.{total, words_from};
 ghost use Rattle.v_meaning.specs.Names.{word_of, words_of};
 ghost use Rattle.v_meaning.specs.Views.{applied};
 ghost use Rattle.v_values.specs.Writes.{write_fits, write_in};
@@ -6,6 +7,7 @@ ghost use Rattle.v_values.specs.Moments.{has_width};
 ghost use Rattle.v_values.specs.Seen.{values_of, widths_of};
 
 use crate::memory::Memory;
+use crate::setting::{clear, put_bits, replace};
 use crate::writing::{Place, Write, put};
 use lz_base::Word;
 use std::marker::Model;
@@ -109,5 +111,40 @@ impl Moment {
                 }
             }
         }
+    }
+
+    /// Sets the words of the inputs.
+    pub fn set_inputs(&mut self, words: &[Word])
+        requires widths { widths_of words.now ≡ self.old.shape.inputs }
+        ensures view { self.new.view ≡ record self.old.view { inputs = values_of words.now } }
+        ensures shape { self.new.shape ≡ self.old.shape }
+    {
+        self.inputs.as_mut_slice().copy_from_slice(words);
+    }
+
+    /// Sets the bits of the sites: a choice lists those of one word after another, each word's most significant bit first.
+    pub fn set_sites(&mut self, choice: &[bool])
+        requires bits { length choice.now ≡ total self.old.shape.sites }
+        ensures view { self.new.view ≡ record self.old.view { sites = words_from self.old.shape.sites choice.now } }
+        ensures shape { self.new.shape ≡ self.old.shape }
+    {
+        put_bits(self.sites.as_mut_slice(), choice);
+    }
+
+    /// Sets all nets and combinational variables to 0.
+    pub fn clear_nets(&mut self)
+        ensures view { self.new.view ≡ record self.old.view { nets = replicate (length self.old.shape.nets) 0 } }
+        ensures shape { self.new.shape ≡ self.old.shape }
+    {
+        clear(self.nets.as_mut_slice());
+    }
+
+    /// Sets the word of a net or combinational variable; nothing where there are not so many.
+    pub fn set_net(&mut self, net: u32, value: u128)
+        requires fits { value < 2 ^ slice_index self.old.shape.nets net }
+        ensures view { self.new.view ≡ record self.old.view { nets = slice_set self.old.view.nets net value } }
+        ensures shape { self.new.shape ≡ self.old.shape }
+    {
+        replace(self.nets.as_mut_slice(), net, value);
     }
 }

@@ -93,8 +93,8 @@ pub fn value(x: &Typed, names: &[Entry], now: &Moment) -> u128
     }
 }
 
-// The word of the name of a number.
-fn named(names: &[Entry], name: u32, now: &Moment) -> u128
+/// The word of the declared name of a number; 0 where there are not so many. It takes no memory.
+pub fn named(names: &[Entry], name: u32, now: &Moment) -> u128
     requires fits { fit now.now.shape names.now ≡ true }
     ensures value { result ≡ word_of (entry_at names.now name).kind now.now.view }
     ensures below { result < 2 ^ (entry_at names.now name).width }

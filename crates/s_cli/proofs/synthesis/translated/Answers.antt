@@ -1,7 +1,5 @@
-use Rattle.std.proofs.Common.{◌≡◌, ℕ, List}
-use Rattle.lz_base.specs.Limits.{source_limit}
 use Rattle.s_cli.specs.Synthesis.{IsTranslation}
-use Rattle.s_cli.proofs.Judged.{OneReading, small_refused, judged_done}
+use Rattle.s_cli.proofs.Judged.{small_refused, judged_done}
 use Rattle.s_cli.proofs.synthesis.translated.Goals as goal
 
 pub returns-in-Err : goal.returns-in-Err

@@ -1,4 +1,4 @@
-use Rattle.std.proofs.Common.{◌≡◌, ◌≤◌, ◌<◌, ◌+◌, true, List, [], ◌∷◌, length, get_or, sym, ap, arith, ◌∙◌}
+use Rattle.std.proofs.Common.{◌≡◌, ◌≤◌, ◌<◌, true, List, [], ◌∷◌, length, get_or, sym, ap, arith, ◌∙◌}
 use Rattle.std.specs.Prelude.{String, string_bytes, codes}
 use Rattle.std.specs.declared.alloc.Global.{Global}
 use Rattle.s_cli.specs.Words.{command_of, is_word, lanes_by}
@@ -18,6 +18,6 @@ lanes_there (x ∷ y ∷ z ∷ w ∷ v ∷ more) a d low high first last is = ab
 
 pub returns-in-len4-clause-by : goal.returns-in-len4-clause-by
 returns-in-len4-clause-by c =
-    let is = rw c.as_str-then-words-lt5.ensures.value at (sym c.eq-then-words-lt5.ensures ∙ c.if-eq-4.true) in
+    let is = rw c.as_str-then-words-lt5.ensures.value at (sym c.eq-then-words-lt5.ensures ∙ c.if-eq-6.true) in
     rw c.as_bytes.ensures.value at c.lanes_by.ensures.by
     ∙ sym (lanes_there _ c.verb-item-then-words-lt5.result c.count-item.result c.in-len4.len_at_least c.in-len4.len_below c.verb-item-then-words-lt5.is c.count-item.is is)

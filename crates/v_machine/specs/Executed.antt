@@ -1,0 +1,91 @@
+-- What a statement must keep so that it can be executed over words, and what it leaves (1364-2005, 9).
+use Rattle.std.specs.Prelude.{ℕ, ◌+◌, List, [], ◌∷◌, map, Bool, true, ◌&&◌, Option, None, Some, slice_get}
+use Rattle.std.specs.List.{list_all}
+use Rattle.v_meaning.specs.Acts.{Acts}
+use Rattle.v_meaning.specs.Designs.{total}
+use Rattle.v_meaning.specs.declared.names.Entry.{Entry}
+use Rattle.v_core.specs.declared.statement.TypedItem.{TypedItem}
+use Rattle.v_core.specs.declared.statement.TypedArm.{TypedArm}
+use Rattle.v_core.specs.declared.statement.TypedStmt.{TypedStmt}
+use Rattle.v_core.specs.declared.statement.TypedStmt.TheOpen.{TypedStmt-F, TypedArm-F}
+use Rattle.v_core.specs.declared.statement.TypedStmt.TheOpen as s
+use Rattle.v_core.specs.declared.statement.TypedStmt.TheFolds.{fold-TypedStmt}
+use Rattle.v_core.specs.Sited.{SitedIn, is_sited}
+use Rattle.v_core.specs.Statements.{ArmIn, acts_in, items_in}
+use Rattle.v_values.specs.Kept.{is_sited_target}
+use Rattle.v_values.specs.Moments.{MomentValue}
+use Rattle.v_values.specs.Queues.{QueueValue}
+use Rattle.v_values.specs.Queues as queue
+use Rattle.v_order.specs.Stepping.{Stepping}
+
+-- ---- sites
+
+-- the sites of a statement have as many bits as are read there
+abbrev pub sited_stmt_step : TypedStmt-F SitedIn SitedIn → List Entry → List ℕ → Bool
+sited_stmt_step s.Null names sites = true
+sited_stmt_step (s.Block body) names sites = list_all (λ (one : SitedIn). one names sites) body
+sited_stmt_step (s.If condition one other) names sites = is_sited condition names sites && (one names sites && other names sites)
+sited_stmt_step (s.Case subject arms) names sites = is_sited subject names sites && list_all (λ (arm : SitedIn). arm names sites) arms
+sited_stmt_step (s.Assign target kind value) names sites = is_sited_target target names sites && is_sited value names sites
+
+abbrev pub are_sited_items : List TypedItem → List Entry → List ℕ → Bool
+are_sited_items items names sites = list_all (λ (item : TypedItem). is_sited item.value names sites) items
+
+abbrev pub sited_arm_step : TypedArm-F SitedIn SitedIn → SitedIn
+sited_arm_step a names sites = are_sited_items (items_in a.label) names sites && a.body names sites
+
+abbrev pub is_sited_stmt : TypedStmt → List Entry → List ℕ → Bool
+is_sited_stmt = fold-TypedStmt SitedIn SitedIn sited_stmt_step sited_arm_step
+
+-- ---- writes
+
+-- how many writes wait at once at most, when all its branches are taken
+abbrev pub write_count_step : TypedStmt-F ℕ ℕ → ℕ
+write_count_step s.Null = 0
+write_count_step (s.Block body) = total body
+write_count_step (s.If condition one other) = one + other
+write_count_step (s.Case subject arms) = total arms
+write_count_step (s.Assign target kind value) = queue.write_count target
+
+abbrev pub arm_count_step : TypedArm-F ℕ ℕ → ℕ
+arm_count_step a = a.body
+
+abbrev pub write_count : TypedStmt → ℕ
+write_count = fold-TypedStmt ℕ ℕ write_count_step arm_count_step
+
+-- how many several statements make
+abbrev pub write_counts : List TypedStmt → ℕ
+write_counts [] = 0
+write_counts (x ∷ xs) = write_count x + write_counts xs
+
+abbrev pub arm_counts : List TypedArm → ℕ
+arm_counts [] = 0
+arm_counts (a ∷ arms) = write_count a.body + arm_counts arms
+
+-- ---- statements one after another
+
+abbrev pub all_acts_in : List TypedStmt → List Entry → List Acts
+all_acts_in all names = map (λ (x : TypedStmt). acts_in x names) all
+
+-- ---- what stands when a statement begins or is at its end
+
+abbrev pub stepping : MomentValue → QueueValue → Stepping
+stepping now queue = record { view = now.view; queue = queue.writes }
+
+-- ---- the arms of a case
+
+abbrev pub arm_in : TypedArm → ArmIn
+arm_in a = record { label = a.label; acts = acts_in a.body }
+
+abbrev pub arms_in : List TypedArm → List ArmIn
+arms_in arms = map arm_in arms
+
+-- what an arm does; where there is none, these acts
+abbrev pub acts_of_arm : Option TypedArm → List Entry → Acts → Acts
+acts_of_arm None names otherwise = otherwise
+acts_of_arm (Some a) names otherwise = acts_in a.body names
+
+-- the same by the number of the arm
+abbrev pub acts_at : Option ℕ → List TypedArm → List Entry → Acts → Acts
+acts_at None arms names otherwise = otherwise
+acts_at (Some i) arms names otherwise = acts_of_arm (slice_get arms i) names otherwise

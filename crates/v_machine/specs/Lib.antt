@@ -1,0 +1,5 @@
+pub mod Executed
+pub mod Cases
+pub mod Runnable
+pub mod Machines
+pub mod Firsts

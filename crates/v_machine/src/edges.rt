@@ -1,0 +1,68 @@
+ghost use Rattle.std.specs.Prelude.{◌≡◌, ◌≤◌, ◌+◌, [], if◌then◌else◌, length, true};
+ghost use Rattle.std.specs.List.{list_all};
+ghost use Rattle.v_core.specs.declared.modules.TypedProcess.{TypedProcess};
+ghost use Rattle.v_core.specs.Cores.{acts_where};
+ghost use Rattle.v_core.specs.FormedCores.{is_formed_stmt};
+ghost use Rattle.v_core.specs.Statements.{acts_in};
+ghost use Rattle.v_values.specs.Moments.{fit};
+ghost use Rattle.v_values.specs.Writes.{all_fit};
+ghost use Rattle.v_order.specs.Stepping.{all_finished, finished, next_of};
+ghost use Rattle.v_machine.specs.Executed.{is_sited_stmt, stepping, write_count};
+ghost use Rattle.v_machine.specs.Runnable.{process_counts};
+
+use crate::executing::execute;
+use v_core::TypedProcess;
+use v_meaning::Entry;
+use v_values::{Moment, Queue};
+
+// A clocked process takes all its steps; another one none.
+fn take_steps(process: &TypedProcess, names: &[Entry], now: &mut Moment, queue: &mut Queue)
+    requires formed { is_formed_stmt process.now.body names.now ≡ true }
+    requires sited { is_sited_stmt process.now.body names.now now.old.shape.sites ≡ true }
+    requires fits { fit now.old.shape names.now ≡ true }
+    requires room { length queue.old.writes + write_count process.now.body ≤ queue.old.room }
+    requires queued { all_fit now.old.shape queue.old.writes ≡ true }
+    ensures finishes { stepping now.new queue.new ≡ (if process.now.clocked then finished (acts_in process.now.body names.now) (stepping now.old queue.old) else stepping now.old queue.old) }
+    ensures queued { all_fit now.old.shape queue.new.writes ≡ true }
+    ensures shape { now.new.shape ≡ now.old.shape }
+    ensures few { length queue.new.writes ≤ length queue.old.writes + write_count process.now.body }
+    ensures room { queue.new.room ≡ queue.old.room }
+{
+    if process.clocked {
+        execute(&process.body, names, now, queue);
+    }
+}
+
+// The clocked processes take all their steps, one process after another.
+fn take_all_steps(processes: &[TypedProcess], names: &[Entry], now: &mut Moment, queue: &mut Queue)
+    requires formed { list_all (λ (p : TypedProcess). is_formed_stmt p.body names.now) processes.now ≡ true }
+    requires sited { list_all (λ (p : TypedProcess). is_sited_stmt p.body names.now now.old.shape.sites) processes.now ≡ true }
+    requires fits { fit now.old.shape names.now ≡ true }
+    requires room { length queue.old.writes + process_counts processes.now ≤ queue.old.room }
+    requires queued { all_fit now.old.shape queue.old.writes ≡ true }
+    ensures finishes { stepping now.new queue.new ≡ all_finished (acts_where (λ (p : TypedProcess). p.clocked) names.now processes.now) (stepping now.old queue.old) }
+    ensures queued { all_fit now.old.shape queue.new.writes ≡ true }
+    ensures shape { now.new.shape ≡ now.old.shape }
+    ensures room { queue.new.room ≡ queue.old.room }
+{
+    for process in processes {
+        take_steps(process, names, now, queue);
+    }
+}
+
+/// The edge of the clock: the clocked processes take all their steps, one process after another, and then the writes that
+/// wait are done (IEEE Std 1364-2005, 9.2.2 and 11.4). It takes no memory.
+pub fn edge(processes: &[TypedProcess], names: &[Entry], now: &mut Moment, queue: &mut Queue)
+    requires formed { list_all (λ (p : TypedProcess). is_formed_stmt p.body names.now) processes.now ≡ true }
+    requires sited { list_all (λ (p : TypedProcess). is_sited_stmt p.body names.now now.old.shape.sites) processes.now ≡ true }
+    requires fits { fit now.old.shape names.now ≡ true }
+    requires room { process_counts processes.now ≤ queue.old.room }
+    requires empty { queue.old.writes ≡ [] }
+    ensures next { now.new.view.store ≡ next_of (all_finished (acts_where (λ (p : TypedProcess). p.clocked) names.now processes.now) (record { view = now.old.view; queue = [] })) }
+    ensures shape { now.new.shape ≡ now.old.shape }
+    ensures empty { queue.new.writes ≡ [] }
+    ensures room { queue.new.room ≡ queue.old.room }
+{
+    take_all_steps(processes, names, now, queue);
+    queue.apply_from(0, now);
+}

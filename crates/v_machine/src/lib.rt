@@ -18,5 +18,5 @@ mod making;
 mod settling;
 
 pub use executing::execute;
-pub use law::{accepted_modules_run, numbered_names_fit};
+pub use law::{accepted_modules_run, numbered_names_fit, typed_modules_keep_words};
 pub use machine::Machine;

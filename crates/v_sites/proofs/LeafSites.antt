@@ -1,5 +1,5 @@
 -- When an index is a constant expression in range, and how many bits of a number are open.
-use Rattle.std.proofs.Common.{◌≡◌, ◌≤◌, ◌%◌, ◌/◌, ◌+◌, ℕ, zero, suc, arith, List, Bool, true, false, Option, refl, sym, ap, ◌∙◌}
+use Rattle.std.proofs.Common.{◌≡◌, ◌≤◌, ◌/◌, ℕ, zero, suc, arith, List, Bool, true, false, Option, refl, sym, ap, ◌∙◌}
 use Rattle.std.specs.Prelude.{◌&&◌, is_some}
 use Rattle.std.proofs.lemmas.Nat.{mod_below}
 use Rattle.v_syntax.specs.declared.expr.Expr.{Expr}

@@ -32,7 +32,8 @@ pub fn kept_is_sound()
 
 /// The typed form of a module that keeps the rules of declarations and expressions (E4 to E13), over its declared names; it
 /// does in each cycle what the module does (IEEE Std 1364-2005, 4, 5, 6, 9 and 12), and each expression in it has 1 to 128
-/// bits, and its operands as many as its operators take. `OutOfMemory` is the only other answer; it also comes where there are 2^32 names or sites. The work is n log n in the module.
+/// bits, and its operands as many as its operators take. Each name and each site has 1 to 128 bits too, and each assign as many as
+/// its net. `OutOfMemory` is the only other answer; it also comes where there are 2^32 names or sites. The work is n log n in the module.
 pub fn typed(alloc: Global, names: &Names, module: &Module) -> Result<Core, OutOfMemory>
     requires declared { names.now ≡ names_of «module».now }
     requires kept { first_fault (places_of «module».now) typing_rules ≡ None }

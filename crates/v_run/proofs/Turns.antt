@@ -1,0 +1,112 @@
+-- Runs, one cycle after another.
+use Rattle.std.proofs.Common.{◌≡◌, ◌<◌, ◌≤◌, ◌+◌, ◌^◌, ◌++◌, ap, sym, subst, ◌∙◌, refl, arith, ℕ, zero, suc, List, [], ◌∷◌, length, get_or, take, drop, Bool, append-nil}
+use Rattle.std.proofs.lemmas.List.{drop_more, length-map, take_all, take_more}
+use Rattle.std.proofs.lemmas.Grind.{common_steps}
+use Rattle.lz_base.specs.WordValue.{WordValue}
+use Rattle.lz_base.specs.declared.name.Port.{Port}
+use Rattle.t_trace.specs.Widths.{CyclesFit, FitWidths}
+use Rattle.v_machine.specs.Runnable.{port_widths}
+use Rattle.v_meaning.specs.Designs.{Design, IsOutcome, port_words, word_values}
+use Rattle.v_meaning.specs.Views.{Store}
+use Rattle.v_values.specs.Seen.{values_of, widths_of}
+use Rattle.v_run.specs.Runs.{RunsFrom, Shows}
+
+drop_past : {A : Type 0} (xs : List A) (i : ℕ) → length xs ≤ i → drop i xs ≡ []
+drop_past xs i h = grind (arith, common_steps)
+
+-- ---- words
+
+pub fit_widths : (widths : List ℕ) (words : List WordValue) → FitWidths widths words → widths_of words ≡ widths
+fit_widths [] [] fit = refl
+fit_widths [] (w ∷ words) fit = absurd fit
+fit_widths (width ∷ widths) [] fit = absurd fit
+fit_widths (width ∷ widths) (w ∷ words) fit = (λ j. fit.0 j ∷ fit_widths widths words fit.2 j)
+
+pub word_values_are : (words : List WordValue) → word_values words ≡ values_of words
+word_values_are [] = refl
+word_values_are (w ∷ words) = ap (λ (ns : List ℕ). w.value ∷ ns) (word_values_are words)
+
+-- words that have the widths of ports are those of their values
+pub words_at_ports : (ports : List Port) (words : List WordValue) → widths_of words ≡ port_widths ports → words ≡ port_words ports (values_of words)
+words_at_ports [] [] is = refl
+words_at_ports [] (w ∷ words) is = absurd (cc is)
+words_at_ports (p ∷ ports) [] is = absurd (cc is)
+words_at_ports (p ∷ ports) (w ∷ words) is =
+    let width : w.width ≡ p.width = cc is in
+    let left : widths_of words ≡ port_widths ports = cc is in
+    (λ j. record { width = width j; value = w.value } ∷ words_at_ports ports words left j)
+
+-- a cycle that shows these words, which have the widths of the outputs
+pub shows_words : (Allowed : List ℕ → Type 0) (d : Design) (before after : Store) (inputs words out : List WordValue) (choice : List Bool) → words ≡ out → widths_of out ≡ port_widths d.outputs →
+    IsOutcome Allowed d before (values_of inputs) choice (values_of out) after → Shows Allowed d before inputs choice words after
+shows_words Allowed d before after inputs words out choice is widths outcome = record {
+  shown = values_of out;
+  words_are = is ∙ words_at_ports d.outputs out widths;
+  outcome = subst (λ (ns : List ℕ). IsOutcome Allowed d before ns choice (values_of out) after) (sym (word_values_are inputs)) outcome;
+}
+
+-- what a vector holds whose words were all written over
+pub written_over : (out items : List WordValue) (n : ℕ) → widths_of out ≡ widths_of items → length items ≡ n → take n (out ++ drop (length out) items) ≡ out
+written_over out items n widths many =
+    let same : length out ≡ length items = sym (length-map out (λ (w : WordValue). w.width)) ∙ ap length widths ∙ length-map items (λ (w : WordValue). w.width) in
+    let past : drop (length out) items ≡ [] = drop_past items (length out) (omega (arith, same)) in
+    rw past (ap (take n) (append-nil out) ∙ take_all n out (omega (arith, same, many)))
+
+-- the words of a cycle that is there fit
+pub cycle_there : (widths : List ℕ) (cycles : List (List WordValue)) (i : ℕ) (words : List WordValue) → CyclesFit widths cycles → i < length cycles → words ≡ get_or cycles i words → FitWidths widths words
+cycle_there widths [] i words fit within is = absurd (omega arith)
+cycle_there widths (c ∷ cycles) zero words fit within is = rw is fit.0
+cycle_there widths (c ∷ cycles) (suc i) words fit within is = cycle_there widths cycles i words fit.1 (omega arith) is
+
+-- one word more that keeps to its width
+pub keep_more : (words : List WordValue) (w : WordValue) → FitWidths (widths_of words) words → w.value < 2 ^ w.width → FitWidths (widths_of (words ++ w ∷ [])) (words ++ w ∷ [])
+keep_more [] w fit below = (refl, below, tt)
+keep_more (x ∷ words) w fit below = (fit.0, fit.1, keep_more words w fit.2 below)
+
+-- the same behind the words before an index
+pub keep_next : (words : List WordValue) (i : ℕ) (w : WordValue) → i < length words → w ≡ get_or words i w → FitWidths (widths_of (take i words)) (take i words) → w.value < 2 ^ w.width →
+    FitWidths (widths_of (take (i + 1) words)) (take (i + 1) words)
+keep_next words i w within is fit below =
+    let more : take (i + 1) words ≡ take i words ++ w ∷ [] = take_more words i w within ∙ ap (λ (v : WordValue). take i words ++ v ∷ []) (sym is) in
+    rw more (keep_more (take i words) w fit below)
+
+-- words that keep to widths which these are
+pub fits_ports : (words seen : List WordValue) (widths : List ℕ) → seen ≡ words → widths_of words ≡ widths → FitWidths (widths_of seen) seen → FitWidths widths words
+fits_ports words seen widths is widths_are fit =
+    subst (λ (ns : List ℕ). FitWidths ns words) widths_are (subst (λ (ws : List WordValue). FitWidths (widths_of ws) ws) is fit)
+
+-- one cycle more whose words fit
+pub cycles_more : (widths : List ℕ) (cycles pushed : List (List WordValue)) (words : List WordValue) → pushed ≡ cycles ++ words ∷ [] → CyclesFit widths cycles → FitWidths widths words → CyclesFit widths pushed
+cycles_more widths cycles pushed words push fit fits = subst (CyclesFit widths) (sym push) (joined widths cycles words fit fits)
+  where
+    joined : (widths : List ℕ) (cycles : List (List WordValue)) (words : List WordValue) → CyclesFit widths cycles → FitWidths widths words → CyclesFit widths (cycles ++ words ∷ [])
+    joined widths [] words fit fits = (fits, tt)
+    joined widths (c ∷ cycles) words fit fits = (fit.0, joined widths cycles words fit.1 fits)
+
+-- ---- runs
+
+-- With what has been shown, and whatever the cycles that are left show from this store on, the whole run.
+abbrev pub Leads : (List ℕ → Type 0) → Design → Store → List (List WordValue) → List (List Bool) → List (List WordValue) → Store → List (List WordValue) → List (List Bool) → Type 0
+Leads Allowed d first stimulus choices so_far now inputs_left choices_left =
+    (rest : List (List WordValue)) → RunsFrom Allowed d now inputs_left choices_left rest → RunsFrom Allowed d first stimulus choices (so_far ++ rest)
+
+pub leads_on : (Allowed : List ℕ → Type 0) (d : Design) (first : Store) (stimulus : List (List WordValue)) (choices : List (List Bool)) (so_far pushed : List (List WordValue)) (now : Store) (i : ℕ)
+    (left more : List (List Bool)) (input : List WordValue) (choice : List Bool) (words : List WordValue) (after : Store) → i < length stimulus → input ≡ get_or stimulus i input → left ≡ choice ∷ more →
+    pushed ≡ so_far ++ words ∷ [] → Shows Allowed d now input choice words after → Leads Allowed d first stimulus choices so_far now (drop i stimulus) left →
+    Leads Allowed d first stimulus choices pushed after (drop (i + 1) stimulus) more
+leads_on Allowed d first stimulus choices so_far pushed now i left more input choice words after within is split push shows before rest runs =
+    let next : drop i stimulus ≡ input ∷ drop (i + 1) stimulus = drop_more stimulus i input within ∙ ap (λ (x : List WordValue). x ∷ drop (i + 1) stimulus) (sym is) in
+    let from : RunsFrom Allowed d now (drop i stimulus) left (words ∷ rest) = rw next (rw split (after, shows, runs)) in
+    let joined : pushed ++ rest ≡ so_far ++ words ∷ rest = rw push (grind (arith, common_steps)) in
+    rw joined (before (words ∷ rest) from)
+
+none_left : (xs : List (List Bool)) → length xs ≤ 0 → xs ≡ []
+none_left [] h = refl
+none_left (x ∷ xs) h = absurd (omega arith)
+
+-- a run is whole where no cycle is left
+pub run_ends : (Allowed : List ℕ → Type 0) (d : Design) (first : Store) (stimulus : List (List WordValue)) (choices : List (List Bool)) (so_far : List (List WordValue)) (now : Store) (i : ℕ) (left : List (List Bool)) →
+    length stimulus ≤ i → length left ≤ 0 → Leads Allowed d first stimulus choices so_far now (drop i stimulus) left → RunsFrom Allowed d first stimulus choices so_far
+run_ends Allowed d first stimulus choices so_far now i left past none run =
+    let ended : RunsFrom Allowed d now (drop i stimulus) left [] = rw (drop_past stimulus i past) (rw (none_left left none) tt) in
+    rw append-nil at (run [] ended)

@@ -1,0 +1,21 @@
+//! The run of a typed module over a stimulus, where the bits that its source leaves open are chosen.
+//!
+//! It stands on the simulator of `v_machine`, on the stimulus and the trace of `t_trace` and on the choices of `t_choices`.
+//! Promised are: `trace` gives the words that the module shows in text order under the choices, line by line; `inputs_for` reads
+//! a stimulus and choices for a module, or says which of the texts is none and where; `shown_trace` prints the trace over two
+//! texts. Apart from the line of the trace a cycle takes no memory.
+#![tactic(auto)]
+
+mod choosing;
+mod law;
+mod reading;
+mod running;
+mod showing;
+mod widths;
+
+pub use choosing::{cycle_bits, first_bits};
+pub use law::one_trace;
+pub use reading::{choices_for, inputs_for, stimulus_for};
+pub use running::trace;
+pub use showing::shown_trace;
+pub use widths::input_widths;

@@ -34,7 +34,9 @@ pub counts_next : (whole before steps : ℕ) (s next : Stepping) (a : Acts) (lef
     before + steps_of (sequence left) s.view ≡ whole → before + steps + steps_of (sequence more) next.view ≡ whole
 counts_next whole before steps s next a left more is e many h =
     omega (
-      arith, h, many,
+      arith,
+      h,
+      many,
       ap (λ (all : List Acts). steps_of (sequence all) s.view) is,
       steps_followed a (sequence more) s.view,
       ap (steps_of (sequence more)) (ap (λ (t : Stepping). t.view) e ∙ finished_view a s),

@@ -27,19 +27,19 @@ execute-execute_all-requires t c = (
   omega (arith, ap the_size c.in-Block.is, body_deeper c.in-Block.all, ap (most the_size) c.as_slice.ensures),
   (
     omega (arith, block_count c.args.body.now _ _ c.in-Block.is c.as_slice.ensures, c.requires.counted),
-   (
-    block_formed c.args.body.now _ _ c.args.names.now c.in-Block.is c.as_slice.ensures c.requires.formed,
     (
-      block_sited c.args.body.now _ _ c.args.names.now _ c.in-Block.is c.as_slice.ensures c.requires.sited,
+      block_formed c.args.body.now _ _ c.args.names.now c.in-Block.is c.as_slice.ensures c.requires.formed,
       (
-        c.requires.fits,
+        block_sited c.args.body.now _ _ c.args.names.now _ c.in-Block.is c.as_slice.ensures c.requires.sited,
         (
-          omega (arith, block_count c.args.body.now _ _ c.in-Block.is c.as_slice.ensures, c.requires.room),
-          c.requires.queued,
+          c.requires.fits,
+          (
+            omega (arith, block_count c.args.body.now _ _ c.in-Block.is c.as_slice.ensures, c.requires.room),
+            c.requires.queued,
+          ),
         ),
       ),
     ),
-   ),
   ),
 )
 
@@ -69,19 +69,19 @@ execute-execute-requires-in-Some t c = (
   ),
   (
     omega (arith, body_count c.args.body.now _ _ _ _ c.index-arms-i.result c.in-Case.is c.as_slice-arms.ensures c.in-Some.ensures.within, c.requires.counted),
-   (
-    body_formed c.args.body.now _ _ _ c.args.names.now _ _ c.in-Case.is c.as_slice-arms.ensures c.in-Some.ensures.within c.requires.formed,
     (
-      body_sited c.args.body.now _ _ _ c.args.names.now _ _ _ c.in-Case.is c.as_slice-arms.ensures c.in-Some.ensures.within c.requires.sited,
+      body_formed c.args.body.now _ _ _ c.args.names.now _ _ c.in-Case.is c.as_slice-arms.ensures c.in-Some.ensures.within c.requires.formed,
       (
-        c.requires.fits,
+        body_sited c.args.body.now _ _ _ c.args.names.now _ _ _ c.in-Case.is c.as_slice-arms.ensures c.in-Some.ensures.within c.requires.sited,
         (
-          omega (arith, body_count c.args.body.now _ _ _ _ c.index-arms-i.result c.in-Case.is c.as_slice-arms.ensures c.in-Some.ensures.within, c.requires.room),
-          c.requires.queued,
+          c.requires.fits,
+          (
+            omega (arith, body_count c.args.body.now _ _ _ _ c.index-arms-i.result c.in-Case.is c.as_slice-arms.ensures c.in-Some.ensures.within, c.requires.room),
+            c.requires.queued,
+          ),
         ),
       ),
     ),
-   ),
   ),
 )
 
@@ -114,21 +114,21 @@ execute_all-execute-steps-requires t c =
     let same : c.loop-one.now.shape ≡ c.args.now.now.shape = c.loop-one.invariant.shape in (
       omega (arith, at_most the_size c.args.all.now c.loop-one.one-index c.one-item.result c.loop-one-test.true, ap the_size c.one-item.is),
       (
-       omega (arith, ap write_counts next, c.loop-one.invariant.bound, c.requires.counted),
-       (
-        one_of (λ (x : TypedStmt). is_formed_stmt x c.args.names.now) c.args.all.now _ _ c.loop-one-test.true c.one-item.is c.requires.formed,
+        omega (arith, ap write_counts next, c.loop-one.invariant.bound, c.requires.counted),
         (
-          ap (λ (s : Shape). is_sited_stmt c.one-item.result c.args.names.now s.sites) same
-              ∙ one_of (λ (x : TypedStmt). is_sited_stmt x c.args.names.now c.args.now.now.shape.sites) c.args.all.now _ _ c.loop-one-test.true c.one-item.is c.requires.sited,
+          one_of (λ (x : TypedStmt). is_formed_stmt x c.args.names.now) c.args.all.now _ _ c.loop-one-test.true c.one-item.is c.requires.formed,
           (
-            ap (λ (s : Shape). fit s c.args.names.now) same ∙ c.requires.fits,
+            ap (λ (s : Shape). is_sited_stmt c.one-item.result c.args.names.now s.sites) same
+                ∙ one_of (λ (x : TypedStmt). is_sited_stmt x c.args.names.now c.args.now.now.shape.sites) c.args.all.now _ _ c.loop-one-test.true c.one-item.is c.requires.sited,
             (
-              omega (arith, ap write_counts next, c.loop-one.invariant.few, c.loop-one.invariant.room, c.requires.room),
-              ap (λ (s : Shape). all_fit s c.loop-one.queue.writes) same ∙ c.loop-one.invariant.queued,
+              ap (λ (s : Shape). fit s c.args.names.now) same ∙ c.requires.fits,
+              (
+                omega (arith, ap write_counts next, c.loop-one.invariant.few, c.loop-one.invariant.room, c.requires.room),
+                ap (λ (s : Shape). all_fit s c.loop-one.queue.writes) same ∙ c.loop-one.invariant.queued,
+              ),
             ),
           ),
         ),
-       ),
       ),
     )
 

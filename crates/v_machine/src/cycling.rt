@@ -57,3 +57,31 @@ pub fn run_cycle(
     show(core.outputs.as_slice(), names, now, out);
     edge(core.processes.as_slice(), names, now, queue);
 }
+
+/// Counts the steps that each clocked process takes in a cycle over a moment, which is left somewhere within that cycle. It
+/// takes no memory.
+pub fn count_steps(
+    core: &Core,
+    order: &[usize],
+    now: &mut Moment,
+    queue: &mut Queue,
+    input: &[Word],
+    choice: &[bool],
+    counts: &mut Vec<usize>,
+)
+    requires runs { CanRun core.now order.now }
+    requires shape { now.old.shape ≡ shape_of core.now }
+    requires empty { queue.old.writes ≡ [] }
+    requires counted { process_counts core.now.processes < 2 ^ 64 }
+    requires room { process_counts core.now.processes ≤ queue.old.room }
+    requires inputs { widths_of input.now ≡ port_widths (design_in core.now).inputs }
+    requires choice { length choice.now ≡ cycle_bits (design_in core.now) }
+    ensures counts { counts.new.items ≡ steps_in_order (design_in core.now).clocked (view_by (design_in core.now) order.now (values_of input.now) (words_from (design_in core.now).sites choice.now) now.old.view.store) }
+    ensures shape { now.new.shape ≡ now.old.shape }
+    ensures empty { queue.new.writes ≡ [] }
+    ensures room { queue.new.room ≡ queue.old.room }
+{
+    begin(core, order, now, input, choice);
+    count_all_steps(core.processes.as_slice(), core.names.as_slice(), now, queue, counts);
+    queue.truncate(0);
+}

@@ -15,12 +15,23 @@ use v_core::Core;
 use v_order::text_order_cycles;
 use v_values::{Memory, Moment, Queue};
 
+/// Where a schedule is not complete: the number of its first entry whose process is at its end or is none, or else how many
+/// entries it has.
+#[derive(Clone, Copy, PartialEq, Eq, Debug)]
+pub struct Incomplete {
+    pub index: usize,
+}
+
 /// A typed module under simulation: what its variables and memories hold, and the room for all that a cycle computes.
 #[derive(Drop)]
 pub struct Machine<'a> {
     core: &'a Core,
     order: Vec<usize>,
     moment: Moment,
+    // over which the steps of a schedule are counted, before the cycle itself
+    spare: Moment,
+    // how many steps each clocked process takes; room for all of them
+    counts: Vec<usize>,
     queue: Queue,
 }
 
@@ -104,5 +115,55 @@ impl<'a> Machine<'a> {
             choice,
             out,
         );
+    }
+
+    /// The same cycle under a schedule, which names the clocked processes by their numbers in text order, one for each step
+    /// (IEEE Std 1364-2005, 11.4.2). `Incomplete` where the schedule is not complete, at its first entry whose process is at
+    /// its end or is none, or else behind its last entry; `out` and what the machine holds are then as before. It takes no
+    /// memory.
+    pub fn cycle_by(
+        &mut self,
+        input: &[Word],
+        choice: &[bool],
+        schedule: &[u32],
+        out: &mut [Word],
+    ) -> Result<(), Incomplete>
+        requires inputs { widths_of input.now ≡ port_widths (design_in self.old.core).inputs }
+        requires choice { length choice.now ≡ cycle_bits (design_in self.old.core) }
+        requires outputs { widths_of out.old ≡ port_widths (design_in self.old.core).outputs }
+        ensures cycle { OnOk result (IsCycle (design_in self.old.core) self.old.store (values_of input.now) choice.now schedule.now (values_of out.new) self.new.store) }
+        ensures every { OnOk result (IsOutcome InAnyOrder (design_in self.old.core) self.old.store (values_of input.now) choice.now (values_of out.new) self.new.store) }
+        ensures incomplete { IfErr result (λ e. IsIncompleteAt (design_in self.old.core) self.old.store (values_of input.now) choice.now schedule.now e.index) }
+        ensures refused { OnErr result ((shown : List ℕ) (after : Store) → IsCycle (design_in self.old.core) self.old.store (values_of input.now) choice.now schedule.now shown after → ⊥) }
+        ensures same { OnErr result (self.new ≡ self.old) }
+        ensures out { OnErr result (out.new ≡ out.old) }
+        ensures widths { widths_of out.new ≡ widths_of out.old }
+        ensures core { self.new.core ≡ self.old.core }
+    {
+        schedules_are_counted();
+        any_order_cycles();
+        self.spare.copy_store(&self.moment);
+        count_steps(
+            self.core,
+            self.order.as_slice(),
+            &mut self.spare,
+            &mut self.queue,
+            input,
+            choice,
+            &mut self.counts,
+        );
+        if let Some(index) = short_entry(self.counts.as_mut_slice(), schedule) {
+            return Err(Incomplete { index });
+        }
+        run_cycle(
+            self.core,
+            self.order.as_slice(),
+            &mut self.moment,
+            &mut self.queue,
+            input,
+            choice,
+            out,
+        );
+        Ok(())
     }
 }

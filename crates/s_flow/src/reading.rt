@@ -62,8 +62,8 @@ fn core_of(alloc: Global, tokens: &Tokens) -> Result<Core, Stop>
     judged(alloc, &module)
 }
 
-// The typed form of a module that breaks no rule.
-fn judged(alloc: Global, module: &Module) -> Result<Core, Stop>
+/// The typed form of a module that breaks no rule, or the first rule that it breaks. `OutOfMemory` is the only other answer.
+pub(crate) fn judged(alloc: Global, module: &Module) -> Result<Core, Stop>
     ensures accepted { IfOk result (λ core. (first_broken «module».now ≡ None) × (design_in core ≡ design_of «module».now)) }
     ensures refused { IfFault result (λ fault. first_broken «module».now ≡ Some fault) }
 {

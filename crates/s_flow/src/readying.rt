@@ -44,6 +44,7 @@ fn runnable_of(alloc: Global, tokens: &Tokens) -> Result<Runnable, Stop>
 }
 
 // The same of a module.
+#[tactic(auto, using(crate::proofs::Running::front_runs, crate::proofs::FirstBroken::kept_parts))]
 fn ready(alloc: Global, module: &Module) -> Result<Runnable, Stop>
     ensures design { IfOk result (λ r. (first_broken «module».now ≡ None) × (design_in r.core ≡ design_of «module».now)) }
     ensures runs { IfOk result (λ r. CanRun r.core r.order.items) }

@@ -11,7 +11,7 @@ ghost use Rattle.s_cli.specs.SourceRun.{IsChosenBy, IsDrivenBy, IsSourceRun, IsU
 ghost use Rattle.s_cli.specs.Texts.{IsShort, IsWhole};
 
 use lz_base::{Fault, Rule, SOURCE_LIMIT, Stop, TEXT_LIMIT};
-use s_flow::{Runnable, runnable};
+use s_flow::{Prepared, runnable};
 use std::alloc::Global;
 use t_choices::Choices;
 use t_trace::{Stimulus, print_trace};
@@ -28,7 +28,7 @@ fn too_long(rule: Rule, limit: u64) -> Stop
 }
 
 // What a machine is made of for the module of a source.
-fn source_of(alloc: Global, text: &Option<Vec<u8>>) -> Result<Runnable, Stop>
+fn source_of(alloc: Global, text: &Option<Vec<u8>>) -> Result<Prepared, Stop>
     requires { IsShort source_limit text.now }
     ensures runs { IfOk result (λ r. CanRun r.core r.order.items) }
 {
@@ -86,7 +86,7 @@ pub(crate) fn source_trace(
     let source = source_of(alloc, source)?;
     let stimulus = stimulus_of(alloc, &source.core, stimulus)?;
     let choices = choices_of(alloc, &source.core, stimulus.cycles.len(), choices)?;
-    let Runnable { core, order } = source;
+    let Prepared { core, order } = source;
     let trace = trace(alloc, &core, order, &stimulus, &choices)?;
     Ok(print_trace(alloc, &trace)?)
 }

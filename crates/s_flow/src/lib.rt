@@ -18,6 +18,6 @@ mod turns;
 
 pub use making::make;
 pub use reading::{front, small};
-pub use readying::{Runnable, runnable};
+pub use readying::{Prepared, runnable};
 pub use simulating::{simulate, widths};
 pub use turns::simulate_lanes;

@@ -19,7 +19,7 @@ use v_syntax::{Module, Tokens};
 
 /// The typed form of a module, and an order in which its nets settle: the numbers of its assigns in text order.
 #[derive(Drop)]
-pub struct Runnable {
+pub struct Prepared {
     pub core: Core,
     pub order: Vec<usize>,
 }
@@ -27,7 +27,7 @@ pub struct Runnable {
 /// What a machine is made of for the module that the bytes are a text of: its typed form, and an order in which its nets
 /// settle (IEEE Std 1364-2005, 6.1.2). A text that `front` refuses is refused with the same rule at the same byte.
 /// `OutOfMemory` is the only other answer.
-pub fn runnable(alloc: Global, bytes: &[u8]) -> Result<Runnable, Stop>
+pub fn runnable(alloc: Global, bytes: &[u8]) -> Result<Prepared, Stop>
     requires { length bytes.now ≤ source_limit }
     ensures { IsRunnable bytes.now result }
 {
@@ -36,7 +36,7 @@ pub fn runnable(alloc: Global, bytes: &[u8]) -> Result<Runnable, Stop>
 }
 
 // The same of the tokens.
-fn runnable_of(alloc: Global, tokens: &Tokens) -> Result<Runnable, Stop>
+fn runnable_of(alloc: Global, tokens: &Tokens) -> Result<Prepared, Stop>
     ensures { IsReadyFrom tokens.now.tokens tokens.now.end result }
 {
     let module = parse(alloc, tokens)?;
@@ -45,7 +45,7 @@ fn runnable_of(alloc: Global, tokens: &Tokens) -> Result<Runnable, Stop>
 
 // The same of a module.
 #[tactic(auto, using(crate::proofs::Running::front_runs, crate::proofs::FirstBroken::kept_parts))]
-fn ready(alloc: Global, module: &Module) -> Result<Runnable, Stop>
+fn ready(alloc: Global, module: &Module) -> Result<Prepared, Stop>
     ensures design { IfOk result (λ r. (first_broken «module».now ≡ None) × (design_in r.core ≡ design_of «module».now)) }
     ensures runs { IfOk result (λ r. CanRun r.core r.order.items) }
     ensures refused { IfFault result (λ fault. first_broken «module».now ≡ Some fault) }
@@ -53,5 +53,5 @@ fn ready(alloc: Global, module: &Module) -> Result<Runnable, Stop>
     accepted_modules_run();
     let core = judged(alloc, module)?;
     let order = order(alloc, module)?;
-    Ok(Runnable { core, order })
+    Ok(Prepared { core, order })
 }

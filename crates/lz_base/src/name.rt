@@ -37,6 +37,13 @@ impl Name {
         })
     }
 
+    /// Another name of the same bytes. `OutOfMemory` is the only other answer.
+    pub fn copy(&self, alloc: Global) -> Result<Name, OutOfMemory>
+        ensures { IfOk result (λ n. n ≡ self.now) }
+    {
+        Name::new(alloc, self.bytes())
+    }
+
     /// The bytes of the name. It takes no memory.
     pub fn bytes(&self) -> &[u8]
         ensures value { result.now ≡ self.now }

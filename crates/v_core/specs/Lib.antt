@@ -6,3 +6,4 @@ pub mod Formed
 pub mod OpenForms
 pub mod Sited
 pub mod FormedCores
+pub mod SitedCores

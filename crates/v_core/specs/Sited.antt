@@ -1,7 +1,12 @@
--- Typed expressions whose sites have as many bits as are read there.
+-- Typed expressions whose sites have no more bits than are read there, also those whose final width and sign are open.
 use Rattle.std.specs.Prelude.{ℕ, List, Bool, true, ◌&&◌, nat_le, slice_index}
 use Rattle.std.specs.List.{list_all}
+use Rattle.v_syntax.specs.declared.expr.BinaryOperator.{BinaryOperator}
 use Rattle.v_meaning.specs.declared.names.Entry.{Entry}
+use Rattle.v_core.specs.declared.open.Body.{Body}
+use Rattle.v_core.specs.declared.open.Body.TheOpen.{Body-F}
+use Rattle.v_core.specs.declared.open.Body.TheOpen as b
+use Rattle.v_core.specs.declared.open.Body.TheFolds.{fold-Body}
 use Rattle.v_core.specs.declared.typed.Link.{Link}
 use Rattle.v_core.specs.declared.typed.Typed.{Typed}
 use Rattle.v_core.specs.declared.typed.Typed.TheOpen.{Typed-F}
@@ -31,3 +36,25 @@ sited_step (t.Copies count width x) names sites = x names sites
 
 abbrev pub is_sited : Typed → List Entry → List ℕ → Bool
 is_sited = fold-Typed SitedIn sited_step
+
+-- the operands behind the first one of a chain, and operands side by side
+abbrev pub are_sited_links : List (Link × Typed) → SitedIn
+are_sited_links links names sites = list_all (λ (l : Link × Typed). is_sited l.1 names sites) links
+
+abbrev pub are_sited_parts : List (ℕ × Typed) → SitedIn
+are_sited_parts parts names sites = list_all (λ (p : ℕ × Typed). is_sited p.1 names sites) parts
+
+-- ---- expressions whose final width and sign are open; these change no site
+
+abbrev pub sited_body_step : Body-F SitedIn → List Entry → List ℕ → Bool
+sited_body_step (b.Leaf width x) names sites = is_sited x names sites
+sited_body_step (b.Own x) names sites = is_sited x names sites
+sited_body_step (b.Unary op x) names sites = x names sites
+sited_body_step (b.Chain x links) names sites = x names sites && list_all (λ (l : BinaryOperator × SitedIn). l.1 names sites) links
+sited_body_step (b.Choice c x y) names sites = is_sited c names sites && x names sites && y names sites
+
+abbrev pub is_sited_body : Body → List Entry → List ℕ → Bool
+is_sited_body = fold-Body SitedIn sited_body_step
+
+abbrev pub are_sited_bodies : List (BinaryOperator × Body) → SitedIn
+are_sited_bodies links names sites = list_all (λ (l : BinaryOperator × Body). is_sited_body l.1 names sites) links

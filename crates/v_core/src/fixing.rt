@@ -2,6 +2,7 @@ ghost use Rattle.std.specs.Prelude.{◌≡◌, IfOk};
 ghost use Rattle.v_core.specs.Values.{typed_value, link_values};
 ghost use Rattle.v_core.specs.Bodies.{body_value, fixed_links, link_bodies};
 ghost use Rattle.v_core.specs.Formed.{formed, link_forms};
+ghost use Rattle.v_core.specs.Sited.{are_sited_bodies, are_sited_links, is_sited, is_sited_body};
 ghost use Rattle.v_core.specs.OpenForms.{body_form, body_forms, fixed_forms};
 
 use crate::making::{chained, chosen, extended, prefixed};
@@ -16,6 +17,7 @@ use v_syntax::BinaryOperator;
 pub fn fix(alloc: Global, body: Body, width: u32, signed: bool) -> Result<Typed, OutOfMemory>
     ensures value { IfOk result (λ t. typed_value t ≡ body_value body width signed) }
     ensures form { IfOk result (λ t. formed t ≡ body_form body width signed) }
+    ensures sited { IfOk result (λ t. is_sited t ≡ is_sited_body body) }
 {
     match body {
         Body::Leaf(from, x) => extended(alloc, x, from, width, signed),
@@ -47,6 +49,7 @@ fn fix_links(
 ) -> Result<Items<(Link, Typed)>, OutOfMemory>
     ensures value { IfOk result (λ fixed. link_values fixed ≡ fixed_links (link_bodies links) width signed) }
     ensures form { IfOk result (λ fixed. link_forms fixed ≡ fixed_forms (body_forms links) width signed) }
+    ensures sited { IfOk result (λ fixed. are_sited_links fixed ≡ are_sited_bodies links) }
 {
     let mut left = links;
     let mut fixed = Vec::new(alloc);

@@ -1,9 +1,10 @@
-ghost use Rattle.std.specs.Prelude.{◌≡◌, IfOk, List, true};
+ghost use Rattle.std.specs.Prelude.{◌≡◌, ◌&&◌, IfOk, List, true};
 ghost use Rattle.v_meaning.specs.Senses.{operation};
 ghost use Rattle.v_core.specs.Values.{typed_value};
 ghost use Rattle.v_core.specs.Bodies.{body_value};
 ghost use Rattle.v_meaning.specs.declared.names.Entry.{Entry};
 ghost use Rattle.v_core.specs.Formed.{formed, has, has_at_most};
+ghost use Rattle.v_core.specs.Sited.{is_sited, is_sited_body};
 ghost use Rattle.v_core.specs.OpenForms.{body_form, linked_form};
 
 use crate::{Body, Typed, fix};
@@ -16,6 +17,7 @@ use v_syntax::BinaryOperator;
 pub fn fix_before(alloc: Global, body: Body, width: u32, signed: bool) -> Result<Typed, OutOfMemory>
     ensures value { IfOk result (λ t. typed_value t ≡ body_value body width signed) }
     ensures form { IfOk result (λ t. (names : List Entry) → has width (body_form body width signed names) ≡ true → has_at_most width (formed t names) ≡ true) }
+    ensures sited { IfOk result (λ t. is_sited t ≡ is_sited_body body) }
 {
     if signed {
         return fix(alloc, body, width, signed);
@@ -30,6 +32,7 @@ pub fn fix_before(alloc: Global, body: Body, width: u32, signed: bool) -> Result
 fn one_body(alloc: Global, operator: BinaryOperator, x: Body, y: Body) -> Result<Body, OutOfMemory>
     ensures value { IfOk result (λ b. body_value b ≡ (λ w s names v. operation operator w s (body_value x w s names v) (body_value y w s names v))) }
     ensures form { IfOk result (λ b. body_form b ≡ (λ w s names. linked_form (record { operator = operator; width = w; signed = s }) (body_form x w s names) (body_form y w s names))) }
+    ensures sited { IfOk result (λ b. is_sited_body b ≡ (λ names sites. is_sited_body x names sites && is_sited_body y names sites)) }
 {
     let mut links = Items::new(alloc);
     links.push((operator, y))?;
@@ -47,6 +50,7 @@ pub fn body_linked(
 ) -> Result<Body, OutOfMemory>
     ensures value { IfOk result (λ b. body_value b ≡ (λ w s names v. operation operator w s (body_value x w s names v) (body_value y w s names v))) }
     ensures form { IfOk result (λ b. body_form b ≡ (λ w s names. linked_form (record { operator = operator; width = w; signed = s }) (body_form x w s names) (body_form y w s names))) }
+    ensures sited { IfOk result (λ b. is_sited_body b ≡ (λ names sites. is_sited_body x names sites && is_sited_body y names sites)) }
 {
     match x {
         Body::Chain(first, links) => {

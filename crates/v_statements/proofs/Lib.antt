@@ -8,3 +8,4 @@ pub mod ItemLaws
 pub mod OpenLaws
 pub mod Depths
 pub mod FormLaws
+pub mod SitedLaws

@@ -3,3 +3,4 @@ pub mod Made
 pub mod Measured
 pub mod Cases
 pub mod Forms
+pub mod Sited

@@ -1,4 +1,4 @@
-ghost use Rattle.std.specs.Prelude.{◌≡◌, true, map, IfOk};
+ghost use Rattle.std.specs.Prelude.{◌≡◌, ℕ, List, true, map, IfOk};
 ghost use Rattle.std.specs.List.{list_all};
 ghost use Rattle.v_meaning.specs.Senses.{own};
 ghost use Rattle.v_meaning.specs.Expressions.{sense_of};
@@ -11,6 +11,8 @@ ghost use Rattle.v_core.specs.Statements.{acts_in};
 ghost use Rattle.v_core.specs.Formed.{formed};
 ghost use Rattle.v_core.specs.FormedCores.{is_formed_stmt};
 ghost use Rattle.v_statements.specs.Forms.{ArmFormed, Each};
+ghost use Rattle.v_core.specs.Sited.{is_sited};
+ghost use Rattle.v_typing.specs.Sited.{IsRead};
 ghost use Rattle.v_typing.specs.Sound.{is_sound_stmt, is_sound_target};
 ghost use Rattle.v_statements.specs.Sound.{is_sound_arm};
 ghost use Rattle.v_statements.specs.Made.{body_acts};
@@ -32,6 +34,7 @@ fn condition(alloc: Global, names: &Names, sites: &Sites, x: &Expr) -> Result<Ty
     requires sound { is_sound names.now x.now ≡ true }
     ensures value { IfOk result (λ t. typed_value t names.now ≡ own (sense_of names.now sites.now x.now)) }
     ensures form { IfOk result (λ t. (formed t names.now).kept ≡ true) }
+    ensures sited { IfOk result (λ t. (widths : List ℕ) → IsRead widths sites.now names.now x.now → is_sited t names.now widths ≡ true) }
 {
     let x = opened(alloc, names, sites, x)?;
     let t = own(alloc, x)?;

@@ -6,3 +6,5 @@ pub mod Depths
 pub mod OperatorLaws
 pub mod LeafLaws
 pub mod KeepLaws
+pub mod OpeningLaws
+pub mod SitedLaws

@@ -5,6 +5,7 @@ ghost use Rattle.v_meaning.specs.Declarations.{constant_value};
 ghost use Rattle.v_meaning.specs.Proper.{proper_value, is_part, is_between_1_and_128};
 ghost use Rattle.v_core.specs.Bodies.{sense_in};
 ghost use Rattle.v_core.specs.OpenForms.{OpenFormed};
+ghost use Rattle.v_core.specs.Sited.{is_sited_body};
 
 use crate::leaves::part;
 use crate::operators::replicated;
@@ -38,6 +39,7 @@ pub fn part_between(
     requires bounds { is_part (entry_of names.now ident.now.name) (proper_value names.now msb.now) (proper_value names.now lsb.now) ≡ true }
     ensures value { IfOk result (λ o. sense_in o names.now ≡ read_part (entry_of names.now ident.now.name) (or_zero (constant_value names.now msb.now)) (or_zero (constant_value names.now lsb.now))) }
     ensures form { IfOk result (λ o. OpenFormed o names.now) }
+    ensures sited { IfOk result (λ o. is_sited_body o.body ≡ (λ names sites. true)) }
 {
     let m = bound(alloc, names, msb)?;
     let l = bound(alloc, names, lsb)?;
@@ -50,6 +52,7 @@ pub fn repeated(alloc: Global, names: &Names, count: &Expr, x: Open) -> Result<O
     requires room { or_zero (constant_value names.now count.now) * x.width ≤ 128 }
     ensures value { IfOk result (λ o. sense_in o names.now ≡ replicated (or_zero (constant_value names.now count.now)) (sense_in x names.now)) }
     ensures form { IfOk result (λ o. OpenFormed x names.now → OpenFormed o names.now) }
+    ensures sited { IfOk result (λ o. is_sited_body o.body ≡ is_sited_body x.body) }
 {
     let n = bound(alloc, names, count)?;
     let o = replicated(alloc, n, x)?;

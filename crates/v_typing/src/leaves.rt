@@ -1,12 +1,14 @@
-ghost use Rattle.std.specs.Prelude.{◌≡◌, ◌≤◌, ◌<◌, ◌+◌, ◌-◌, ◌/◌, ◌%◌, ◌^◌, ◌&&◌, if◌then◌else◌, nat_le, nat_lt, slice_index, IfOk, List, true};
+ghost use Rattle.std.specs.Prelude.{◌≡◌, ◌≤◌, ◌<◌, ◌+◌, ◌-◌, ◌/◌, ◌%◌, ◌^◌, ◌&&◌, if◌then◌else◌, nat_le, nat_lt, slice_index, IfOk, List, true, ℕ};
 ghost use Rattle.v_meaning.specs.Literals.{literal_value};
 ghost use Rattle.v_meaning.specs.Names.{read, read_part, selected, span, entry_of, word_of};
-ghost use Rattle.v_meaning.specs.Expressions.{number_sense, open_at};
+ghost use Rattle.v_meaning.specs.Expressions.{number_sense, number_of_place, open_at};
 ghost use Rattle.v_core.specs.Values.{typed_value, entry_at, selected_value, index_in};
 ghost use Rattle.v_core.specs.Bodies.{sense_in};
 ghost use Rattle.v_meaning.specs.declared.names.Entry.{Entry};
 ghost use Rattle.v_core.specs.Formed.{formed, has, is_width, keeps_literal, selected_width};
 ghost use Rattle.v_core.specs.OpenForms.{OpenFormed};
+ghost use Rattle.v_core.specs.Sited.{is_sited, is_sited_body};
+ghost use Rattle.v_typing.specs.Sited.{OpenSited};
 ghost use Rattle.v_numbers.specs.Fit.{IsFit};
 ghost use Rattle.v_typing.specs.Meanings.{is_memory};
 
@@ -22,6 +24,7 @@ use v_syntax::Ident;
 fn word(name: u32, at: u64) -> Typed
     ensures value { typed_value result ≡ (λ names v. word_of (entry_at names name).kind v) }
     ensures form { formed result ≡ (λ names. record { width = (entry_at names name).width; kept = is_width (entry_at names name).width }) }
+    ensures sited { is_sited result ≡ (λ names sites. true) }
 {
     Typed::Name { name, at }
 }
@@ -30,6 +33,7 @@ fn word(name: u32, at: u64) -> Typed
 pub fn name(names: &Names, ident: &Ident) -> Open
     ensures value { sense_in result names.now ≡ read (entry_of names.now ident.now.name) }
     ensures form { OpenFormed result names.now }
+    ensures sited { is_sited_body result.body ≡ (λ names sites. true) }
 {
     let known = names.known(&ident.name);
     let word = word(known.number, ident.at);
@@ -69,6 +73,7 @@ fn select(
 ) -> Result<Typed, OutOfMemory>
     ensures value { IfOk result (λ t. typed_value t ≡ (λ names v. selected_value (entry_at names name).kind (entry_at names name) (index_in width signed (typed_value index names v)) (slice_index v.sites site) v)) }
     ensures form { IfOk result (λ t. formed t ≡ (λ names. record { width = selected_width (entry_at names name).kind (entry_at names name).width; kept = is_width (entry_at names name).width && has width (formed index names) })) }
+    ensures sited { IfOk result (λ t. is_sited t ≡ (λ names sites. nat_le (slice_index sites site) (selected_width (entry_at names name).kind (entry_at names name).width) && is_sited index names sites)) }
 {
     Ok(Typed::Select {
         name,
@@ -90,6 +95,7 @@ pub fn selected(
 ) -> Result<Open, OutOfMemory>
     ensures value { IfOk result (λ o. sense_in o names.now ≡ selected (entry_of names.now ident.now.name) (sense_in index names.now) (open_at sites.now ident.now.at)) }
     ensures form { IfOk result (λ o. OpenFormed index names.now → OpenFormed o names.now) }
+    ensures sited { IfOk result (λ o. (widths : List ℕ) → nat_le (slice_index widths (number_of_place sites.now ident.now.at)) (selected_width (entry_of names.now ident.now.name).kind (entry_of names.now ident.now.name).width) ≡ true → OpenSited index names.now widths → OpenSited o names.now widths) }
 {
     let known = names.known(&ident.name);
     let site = sites.number_of(ident.at);
@@ -114,6 +120,7 @@ pub fn selected(
 fn bits(name: u32, at: u64, low: u32, width: u32) -> Typed
     ensures value { typed_value result ≡ (λ names v. word_of (entry_at names name).kind v / 2 ^ low % 2 ^ width) }
     ensures form { formed result ≡ (λ names. record { width = width; kept = is_width width && nat_le (low + width) (entry_at names name).width }) }
+    ensures sited { is_sited result ≡ (λ names sites. true) }
 {
     Typed::Part {
         name,
@@ -148,6 +155,7 @@ pub fn part(names: &Names, ident: &Ident, msb: u128, lsb: u128) -> Open
     requires within { msb < (entry_of names.now ident.now.name).low + (entry_of names.now ident.now.name).width }
     ensures value { sense_in result names.now ≡ read_part (entry_of names.now ident.now.name) msb lsb }
     ensures form { OpenFormed result names.now }
+    ensures sited { is_sited_body result.body ≡ (λ names sites. true) }
 {
     let known = names.known(&ident.name);
     let width = span(msb, lsb);
@@ -159,6 +167,7 @@ pub fn part(names: &Names, ident: &Ident, msb: u128, lsb: u128) -> Open
 fn constant(width: u32, value: u128) -> Typed
     ensures value { typed_value result ≡ (λ names v. value) }
     ensures form { formed result ≡ (λ names. record { width = width; kept = is_width width && nat_lt value (2 ^ width) }) }
+    ensures sited { is_sited result ≡ (λ names sites. true) }
 {
     Typed::Constant(width, value)
 }
@@ -167,6 +176,7 @@ fn constant(width: u32, value: u128) -> Typed
 fn open_number(literal: Literal, site: u32) -> Typed
     ensures value { typed_value result ≡ (λ names v. literal_value literal (slice_index v.sites site)) }
     ensures form { formed result ≡ (λ names. record { width = literal.width; kept = keeps_literal literal }) }
+    ensures sited { is_sited result ≡ (λ names sites. true) }
 {
     Typed::Number(literal, site)
 }
@@ -175,6 +185,7 @@ fn open_number(literal: Literal, site: u32) -> Typed
 fn number_word(sites: &Sites, at: u64, literal: Literal) -> Typed
     ensures value { typed_value result ≡ (λ names v. literal_value literal (open_at sites.now at v)) }
     ensures form { (names : List Entry) → IsFit literal → has literal.width (formed result names) ≡ true }
+    ensures sited { is_sited result ≡ (λ names sites. true) }
 {
     if literal.unknown == 0 {
         constant(literal.width, literal.ones)
@@ -187,6 +198,7 @@ fn number_word(sites: &Sites, at: u64, literal: Literal) -> Typed
 pub fn number(sites: &Sites, at: u64, literal: Literal) -> Open
     ensures value { sense_in result ≡ (λ names. number_sense literal (open_at sites.now at)) }
     ensures form { (names : List Entry) → IsFit literal → OpenFormed result names }
+    ensures sited { is_sited_body result.body ≡ (λ names sites. true) }
 {
     let word = number_word(sites, at, literal);
     leaf(literal.width, literal.signed, word)

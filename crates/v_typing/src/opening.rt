@@ -1,4 +1,4 @@
-ghost use Rattle.std.specs.Prelude.{◌≡◌, ◌+◌, ◌≤◌, IfOk, true, nat_le};
+ghost use Rattle.std.specs.Prelude.{◌≡◌, ◌+◌, ◌≤◌, IfOk, true, nat_le, ℕ, List};
 ghost use Rattle.v_meaning.specs.Senses.{chained, joined};
 ghost use Rattle.v_meaning.specs.Expressions.{sense_of};
 ghost use Rattle.v_core.specs.Bodies.{sense_in};
@@ -6,6 +6,7 @@ ghost use Rattle.v_core.specs.OpenForms.{OpenFormed};
 ghost use Rattle.v_meaning.specs.Proper.{is_sound};
 ghost use Rattle.v_typing.specs.Meanings.{meanings, link_meanings};
 ghost use Rattle.v_typing.specs.Sound.{all_sound, links_sound};
+ghost use Rattle.v_typing.specs.Sited.{AllRead, IsRead, LinksRead, OpenSited};
 
 use crate::bounds::{part_between, repeated};
 use crate::leaves::{name, number, selected};
@@ -25,6 +26,7 @@ pub fn opened(alloc: Global, names: &Names, sites: &Sites, x: &Expr) -> Result<O
     requires sound { is_sound names.now x.now ≡ true }
     ensures value { IfOk result (λ o. sense_in o names.now ≡ sense_of names.now sites.now x.now) }
     ensures form { IfOk result (λ o. OpenFormed o names.now) }
+    ensures sited { IfOk result (λ o. (widths : List ℕ) → IsRead widths sites.now names.now x.now → OpenSited o names.now widths) }
 {
     match x {
         Expr::Number(n) => Ok(number(sites, n.at, literal(&n.spelling))),
@@ -84,6 +86,7 @@ fn chained(
     requires sound { links_sound names.now links.now ≡ true }
     ensures value { IfOk result (λ o. sense_in o names.now ≡ chained (sense_in first names.now) (link_meanings names.now sites.now links.now)) }
     ensures form { IfOk result (λ o. OpenFormed first names.now → OpenFormed o names.now) }
+    ensures sited { IfOk result (λ o. (widths : List ℕ) → LinksRead widths sites.now names.now links.now → OpenSited first names.now widths → OpenSited o names.now widths) }
 {
     let mut all = first;
     for (operator, x) in links {
@@ -108,6 +111,7 @@ fn joined(alloc: Global, names: &Names, sites: &Sites, parts: &[Expr]) -> Result
     requires narrow { nat_le (joined (meanings names.now sites.now parts.now)).width 128 ≡ true }
     ensures value { IfOk result (λ o. sense_in o names.now ≡ joined (meanings names.now sites.now parts.now)) }
     ensures form { IfOk result (λ o. 1 ≤ o.width → OpenFormed o names.now) }
+    ensures sited { IfOk result (λ o. (widths : List ℕ) → AllRead widths sites.now names.now parts.now → OpenSited o names.now widths) }
 {
     let mut width = 0u32;
     let mut typed = Items::new(alloc);

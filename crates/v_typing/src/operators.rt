@@ -5,6 +5,7 @@ ghost use Rattle.v_core.specs.Values.{typed_value};
 ghost use Rattle.v_core.specs.Bodies.{body_value, sense_in};
 ghost use Rattle.v_core.specs.Formed.{formed, has, is_width};
 ghost use Rattle.v_core.specs.OpenForms.{OpenFormed, body_form};
+ghost use Rattle.v_core.specs.Sited.{is_sited, is_sited_body};
 
 use lz_base::{Boxed, OutOfMemory};
 use std::alloc::Global;
@@ -16,6 +17,7 @@ use v_syntax::{BinaryOperator, Cast, UnaryOperator};
 pub fn own(alloc: Global, x: Open) -> Result<Typed, OutOfMemory>
     ensures value { IfOk result (λ t. typed_value t ≡ (λ names. own (sense_in x names))) }
     ensures form { IfOk result (λ t. (names : List Entry) → OpenFormed x names → has x.width (formed t names) ≡ true) }
+    ensures sited { IfOk result (λ t. is_sited t ≡ is_sited_body x.body) }
 {
     fix(alloc, x.body, x.width, x.signed)
 }
@@ -24,6 +26,7 @@ pub fn own(alloc: Global, x: Open) -> Result<Typed, OutOfMemory>
 pub fn leaf(width: u32, signed: bool, x: Typed) -> Open
     ensures value { sense_in result ≡ (λ names. leaf width signed (typed_value x names)) }
     ensures form { (names : List Entry) → is_width width ≡ true → has width (formed x names) ≡ true → OpenFormed result names }
+    ensures sited { is_sited_body result.body ≡ is_sited x }
 {
     Open {
         width,
@@ -36,6 +39,7 @@ pub fn leaf(width: u32, signed: bool, x: Typed) -> Open
 fn itself(x: Typed) -> Body
     ensures value { body_value result ≡ (λ width signed. typed_value x) }
     ensures form { body_form result ≡ (λ width signed. formed x) }
+    ensures sited { is_sited_body result ≡ is_sited x }
 {
     Body::Own(x)
 }
@@ -43,6 +47,7 @@ fn itself(x: Typed) -> Body
 fn shared(alloc: Global, operator: BinaryOperator, x: Open, y: Open) -> Result<Open, OutOfMemory>
     ensures value { IfOk result (λ o. sense_in o ≡ (λ names. by_class Shared operator (sense_in x names) (sense_in y names))) }
     ensures form { IfOk result (λ o. (names : List Entry) → class_of operator ≡ Shared → OpenFormed x names → OpenFormed y names → OpenFormed o names) }
+    ensures sited { IfOk result (λ o. is_sited_body o.body ≡ (λ names sites. is_sited_body x.body names sites && is_sited_body y.body names sites)) }
 {
     let width = x.width.max(y.width);
     let signed = x.signed && y.signed;
@@ -71,6 +76,7 @@ fn joint_sign(x: bool, y: bool) -> bool
 fn compared(alloc: Global, operator: BinaryOperator, x: Open, y: Open) -> Result<Open, OutOfMemory>
     ensures value { IfOk result (λ o. sense_in o ≡ (λ names. by_class Compared operator (sense_in x names) (sense_in y names))) }
     ensures form { IfOk result (λ o. (names : List Entry) → class_of operator ≡ Compared → OpenFormed x names → OpenFormed y names → OpenFormed o names) }
+    ensures sited { IfOk result (λ o. is_sited_body o.body ≡ (λ names sites. is_sited_body x.body names sites && is_sited_body y.body names sites)) }
 {
     let width = joint_width(x.width, y.width);
     let signed = joint_sign(x.signed, y.signed);
@@ -88,6 +94,7 @@ fn compared(alloc: Global, operator: BinaryOperator, x: Open, y: Open) -> Result
 fn shifted(alloc: Global, operator: BinaryOperator, x: Open, y: Open) -> Result<Open, OutOfMemory>
     ensures value { IfOk result (λ o. sense_in o ≡ (λ names. by_class Shifted operator (sense_in x names) (sense_in y names))) }
     ensures form { IfOk result (λ o. (names : List Entry) → class_of operator ≡ Shifted → OpenFormed x names → OpenFormed y names → OpenFormed o names) }
+    ensures sited { IfOk result (λ o. is_sited_body o.body ≡ (λ names sites. is_sited_body x.body names sites && is_sited_body y.body names sites)) }
 {
     let by = own(alloc, y)?;
     let body = body_linked(alloc, operator, x.body, itself(by))?;
@@ -101,6 +108,7 @@ fn shifted(alloc: Global, operator: BinaryOperator, x: Open, y: Open) -> Result<
 fn logical(alloc: Global, operator: BinaryOperator, x: Open, y: Open) -> Result<Open, OutOfMemory>
     ensures value { IfOk result (λ o. sense_in o ≡ (λ names. by_class Logical operator (sense_in x names) (sense_in y names))) }
     ensures form { IfOk result (λ o. (names : List Entry) → class_of operator ≡ Logical → OpenFormed x names → OpenFormed y names → OpenFormed o names) }
+    ensures sited { IfOk result (λ o. is_sited_body o.body ≡ (λ names sites. is_sited_body x.body names sites && is_sited_body y.body names sites)) }
 {
     let left = fix_before(alloc, x.body, x.width, x.signed)?;
     let right = own(alloc, y)?;
@@ -122,6 +130,7 @@ pub fn operated(
 ) -> Result<Open, OutOfMemory>
     ensures value { IfOk result (λ o. sense_in o ≡ (λ names. operated operator (sense_in x names) (sense_in y names))) }
     ensures form { IfOk result (λ o. (names : List Entry) → OpenFormed x names → OpenFormed y names → OpenFormed o names) }
+    ensures sited { IfOk result (λ o. is_sited_body o.body ≡ (λ names sites. is_sited_body x.body names sites && is_sited_body y.body names sites)) }
 {
     match class_of(operator) {
         Class::Shared => shared(alloc, operator, x, y),
@@ -135,6 +144,7 @@ pub fn operated(
 pub fn prefixed(alloc: Global, operator: UnaryOperator, x: Open) -> Result<Open, OutOfMemory>
     ensures value { IfOk result (λ o. sense_in o ≡ (λ names. prefixed operator (sense_in x names))) }
     ensures form { IfOk result (λ o. (names : List Entry) → OpenFormed x names → OpenFormed o names) }
+    ensures sited { IfOk result (λ o. is_sited_body o.body ≡ is_sited_body x.body) }
 {
     let width = x.width;
     if is_through(operator) {
@@ -155,6 +165,7 @@ pub fn prefixed(alloc: Global, operator: UnaryOperator, x: Open) -> Result<Open,
 pub fn chosen(alloc: Global, c: Open, x: Open, y: Open) -> Result<Open, OutOfMemory>
     ensures value { IfOk result (λ o. sense_in o ≡ (λ names. chosen (sense_in c names) (sense_in x names) (sense_in y names))) }
     ensures form { IfOk result (λ o. (names : List Entry) → OpenFormed c names → OpenFormed x names → OpenFormed y names → OpenFormed o names) }
+    ensures sited { IfOk result (λ o. is_sited_body o.body ≡ (λ names sites. is_sited_body c.body names sites && is_sited_body x.body names sites && is_sited_body y.body names sites)) }
 {
     let condition = own(alloc, c)?;
     let width = x.width.max(y.width);
@@ -172,6 +183,7 @@ pub fn chosen(alloc: Global, c: Open, x: Open, y: Open) -> Result<Open, OutOfMem
 pub fn recast(alloc: Global, sign: Cast, x: Open) -> Result<Open, OutOfMemory>
     ensures value { IfOk result (λ o. sense_in o ≡ (λ names. recast sign (sense_in x names))) }
     ensures form { IfOk result (λ o. (names : List Entry) → OpenFormed x names → OpenFormed o names) }
+    ensures sited { IfOk result (λ o. is_sited_body o.body ≡ is_sited_body x.body) }
 {
     let width = x.width;
     let t = own(alloc, x)?;
@@ -184,6 +196,7 @@ pub fn replicated(alloc: Global, count: u128, x: Open) -> Result<Open, OutOfMemo
     requires room { count * x.width ≤ 128 }
     ensures value { IfOk result (λ o. sense_in o ≡ (λ names. replicated count (sense_in x names))) }
     ensures form { IfOk result (λ o. (names : List Entry) → 1 ≤ count → OpenFormed x names → OpenFormed o names) }
+    ensures sited { IfOk result (λ o. is_sited_body o.body ≡ is_sited_body x.body) }
 {
     let count = count as u32;
     let width = x.width;

@@ -19,7 +19,8 @@ use Rattle.v_core.specs.Values.{entry_at, index_in, typed_value}
 use Rattle.v_core.specs.Formed.{Formed, FormedIn, formed, has, is_width, selected_width}
 use Rattle.v_core.specs.Statements.{TargetIn, target_senses, target_in_step, target_in, writes_in}
 use Rattle.v_core.specs.FormedCores.{target_form, target_form_step, target_parts}
-use Rattle.v_values.specs.Kept.{is_kept_target, is_sited_target, senses_in, sited_target_step}
+use Rattle.v_core.specs.SitedCores.{is_sited_target, sited_target_step}
+use Rattle.v_values.specs.Kept.{is_kept_target, senses_in}
 use Rattle.v_core.specs.Sited.{SitedIn, is_sited}
 use Rattle.v_values.proofs.Tests.{first_of, second_of, within as at_most_128}
 

@@ -25,3 +25,6 @@ returns-clause-value c =
 
 pub returns-clause-form : goal.returns-clause-form
 returns-clause-form c = c.part.ensures.form
+
+pub returns-clause-sited : goal.returns-clause-sited
+returns-clause-sited c = c.part.ensures.sited

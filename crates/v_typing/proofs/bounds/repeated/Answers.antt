@@ -24,3 +24,6 @@ returns-clause-value c =
 pub returns-clause-form : goal.returns-clause-form
 returns-clause-form c h =
     c.in_ok-o.ensures.form c.args.names.now (count_some (proper_value c.args.names.now c.args.count.now) _ c.in_ok-n.ensures c.requires.counted) h
+
+pub returns-clause-sited : goal.returns-clause-sited
+returns-clause-sited c = c.in_ok-o.ensures.sited

@@ -1,6 +1,7 @@
 use Rattle.v_typing.proofs.KeepLaws.{is_word, select_bits, select_is_word, select_has}
 use Rattle.v_meaning.specs.Names.{entry_of}
 use Rattle.v_typing.proofs.LeafLaws.{selected_is}
+use Rattle.v_typing.proofs.SitedLaws.{selected_sited}
 use Rattle.v_typing.proofs.leaves.selected.Goals as goal
 
 pub returns-clause-value : goal.returns-clause-value
@@ -15,3 +16,8 @@ returns-clause-form c h =
     let bits = select_bits (entry_of c.args.names.now c.args.ident.now.name) c.known-known.result.kind _ _ c.select_width-width.ensures c.known-known.ensures.kind c.known-known.ensures.width in
     c.leaf.ensures.form c.args.names.now (select_is_word (entry_of c.args.names.now c.args.ident.now.name) _ _ bits c.known-known.ensures.width word)
     (select_has c.args.names.now _ c.args.index _ _ _ _ _ c.in_ok-t.ensures.form (c.in_ok-x.ensures.form c.args.names.now h) c.known-known.ensures.number bits c.known-known.ensures.width word)
+
+pub returns-clause-sited : goal.returns-clause-sited
+returns-clause-sited c widths fits h =
+    selected_sited c.args.names.now widths c.args.sites.now _ _ _ _ _ _ _ _ c.leaf.ensures.sited c.in_ok-t.ensures.sited c.in_ok-x.ensures.sited c.known-known.ensures.number
+    c.number_of-site.ensures fits h

@@ -12,7 +12,10 @@ use Rattle.v_core.specs.Values.{Value}
 use Rattle.v_typing.proofs.Depths.{link_size, select_deeper, unary_deeper, cast_deeper, condition_deeper, then_deeper, otherwise_deeper, first_deeper, links_deeper, parts_deeper, inner_deeper}
 use Rattle.v_typing.proofs.Turns.{this_passes, others_pass, chained_next, joined_next, room, joined_done}
 use Rattle.v_typing.proofs.OperatorLaws.{Meaning}
-use Rattle.v_typing.proofs.KeepLaws.{joined_word, concat_has, next_has}
+use Rattle.v_typing.proofs.KeepLaws.{both, joined_word, concat_has, next_has}
+use Rattle.v_typing.proofs.SitedLaws.{next_sited}
+use Rattle.v_typing.proofs.OpeningLaws.{read_unary, read_cast, read_select, read_conditional, read_chain, read_concat, read_replicate, read_link, read_part}
+use Rattle.v_core.specs.Sited.{SitedIn}
 use Rattle.v_typing.proofs.opening.+opening.Goals as goal
 
 pub opened-literal-requires : goal.opened-literal-requires
@@ -47,6 +50,7 @@ chained-loop-operator-preserved t c = (
   chained_next c.args.names.now c.args.sites.now _ _ _ _ c.args.links.now _ _ c.loop-operator-test.true c.loop-operator-item.is c.in_ok-y.ensures.value (ap (λ (f : Meaning). f c.args.names.now) c.in_ok-all.ensures.value) c.loop-operator.invariant.0,
   others_pass (λ (link : BinaryOperator × Expr). is_sound c.args.names.now link.1) c.args.links.now _ _ c.loop-operator-test.true c.loop-operator-item.is c.loop-operator.invariant.1,
   λ h. c.in_ok-all.ensures.form c.args.names.now (c.loop-operator.invariant.2 h) c.in_ok-y.ensures.form,
+  λ widths read h. ap (λ (f : SitedIn). f c.args.names.now widths) c.in_ok-all.ensures.sited ∙ both (c.loop-operator.invariant.3 widths read h) (c.in_ok-y.ensures.sited widths (read_link widths c.args.sites.now c.args.names.now c.args.links.now _ _ c.loop-operator-test.true c.loop-operator-item.is read)),
 )
 
 pub joined-wider-width-requires : goal.joined-wider-width-requires
@@ -58,6 +62,7 @@ joined-loop-x-preserved t c =
       joined_next c.args.names.now c.args.sites.now c.args.parts.now _ _ _ c.loop-x.typed _ _ _ _ c.loop-x-test.true c.x-item.is c.in_ok-one.ensures.value c.in_ok-push.ensures.ok (ap (λ (f : Value). f c.args.names.now) c.in_ok-t.ensures.value) c.loop-x.invariant.0,
       others_pass (is_sound c.args.names.now) c.args.parts.now _ _ c.loop-x-test.true c.x-item.is c.loop-x.invariant.1,
       next_has c.args.names.now c.loop-x.typed _ _ c.in_ok-one.one _ c.in_ok-push.ensures.ok c.in_ok-one.ensures.form (c.in_ok-t.ensures.form c.args.names.now) c.loop-x.invariant.2,
+      λ widths read. next_sited c.args.names.now widths c.loop-x.typed _ _ c.in_ok-push.ensures.ok (c.loop-x.invariant.3 widths read) (ap (λ (f : SitedIn). f c.args.names.now widths) c.in_ok-t.ensures.sited ∙ c.in_ok-one.ensures.sited widths (read_part widths c.args.sites.now c.args.names.now c.args.parts.now _ _ c.loop-x-test.true c.x-item.is read)),
     )
 
 pub joined-returns-clause-value : goal.joined-returns-clause-value
@@ -166,3 +171,53 @@ joined-returns-clause-form t c some =
     (joined_done c.args.names.now c.args.sites.now c.args.parts.now _ _ c.loop-x.typed _ _ _ c.loop-x-test.false c.leaf.ensures.value c.side_by_side.ensures.value c.loop-x.invariant.0)
     c.requires.narrow some in
     c.leaf.ensures.form c.args.names.now word (concat_has c.args.names.now c.loop-x.typed _ _ c.side_by_side.ensures.form word c.loop-x.invariant.2)
+
+-- ---- sites
+
+pub opened-returns-in-Number-clause-sited : goal.opened-returns-in-Number-clause-sited
+opened-returns-in-Number-clause-sited t c widths read = ap (λ (f : SitedIn). f c.args.names.now widths) c.number.ensures.sited
+
+pub opened-returns-in-Name-clause-sited : goal.opened-returns-in-Name-clause-sited
+opened-returns-in-Name-clause-sited t c widths read = ap (λ (f : SitedIn). f c.args.names.now widths) c.name.ensures.sited
+
+pub opened-returns-in_ok-o-in-Part-clause-sited : goal.opened-returns-in_ok-o-in-Part-clause-sited
+opened-returns-in_ok-o-in-Part-clause-sited t c widths read = ap (λ (f : SitedIn). f c.args.names.now widths) c.in_ok-o-in-Part.ensures.sited
+
+pub opened-returns-in_ok-o-in-Select-clause-sited : goal.opened-returns-in_ok-o-in-Select-clause-sited
+opened-returns-in_ok-o-in-Select-clause-sited t c widths read =
+    let parts = read_select widths c.args.sites.now c.args.names.now c.args.x.now _ _ _ _ c.in-Select.is c.get.ensures read in
+    c.in_ok-o-in-Select.ensures.sited widths parts.0 (c.in_ok-index-in-Select.ensures.sited widths parts.1)
+
+pub opened-returns-in_ok-o-in-Unary-clause-sited : goal.opened-returns-in_ok-o-in-Unary-clause-sited
+opened-returns-in_ok-o-in-Unary-clause-sited t c widths read =
+    ap (λ (f : SitedIn). f c.args.names.now widths) c.in_ok-o-in-Unary.ensures.sited
+    ∙ c.in_ok-x-in-Unary.ensures.sited widths (read_unary widths c.args.sites.now c.args.names.now c.args.x.now _ _ _ c.in-Unary.is c.get-in-Unary.ensures read)
+
+pub opened-returns-in_ok-o-in-Cast-clause-sited : goal.opened-returns-in_ok-o-in-Cast-clause-sited
+opened-returns-in_ok-o-in-Cast-clause-sited t c widths read =
+    ap (λ (f : SitedIn). f c.args.names.now widths) c.in_ok-o-in-Cast.ensures.sited
+    ∙ c.in_ok-x-in-Cast.ensures.sited widths (read_cast widths c.args.sites.now c.args.names.now c.args.x.now _ _ _ c.in-Cast.is c.get-in-Cast.ensures read)
+
+pub opened-returns-in_ok-o-in-Chain-clause-sited : goal.opened-returns-in_ok-o-in-Chain-clause-sited
+opened-returns-in_ok-o-in-Chain-clause-sited t c widths read =
+    let parts = read_chain widths c.args.sites.now c.args.names.now c.args.x.now _ _ _ _ c.in-Chain.is c.get-in-Chain.ensures c.as_slice.ensures read in
+    c.in_ok-o-in-Chain.ensures.sited widths parts.1 (c.in_ok-first-in-Chain.ensures.sited widths parts.0)
+
+pub opened-returns-in_ok-o-in-Conditional-clause-sited : goal.opened-returns-in_ok-o-in-Conditional-clause-sited
+opened-returns-in_ok-o-in-Conditional-clause-sited t c widths read =
+    let parts = read_conditional widths c.args.sites.now c.args.names.now c.args.x.now _ _ _ _ _ _ c.in-Conditional.is c.get-in-Conditional.ensures c.get-in-Conditional-2.ensures c.get-in-Conditional-3.ensures read in
+    ap (λ (f : SitedIn). f c.args.names.now widths) c.in_ok-o-in-Conditional.ensures.sited
+    ∙ both
+    (both (c.in_ok-c-in-Conditional.ensures.sited widths parts.0) (c.in_ok-x-in-Conditional.ensures.sited widths parts.1))
+    (c.in_ok-y-in-Conditional.ensures.sited widths parts.2)
+
+pub opened-returns-in_ok-o-in-Concat-clause-sited : goal.opened-returns-in_ok-o-in-Concat-clause-sited
+opened-returns-in_ok-o-in-Concat-clause-sited t c widths read = c.in_ok-o-in-Concat.ensures.sited widths (read_concat widths c.args.sites.now c.args.names.now c.args.x.now _ _ _ c.in-Concat.is c.as_slice-in-Concat.ensures read)
+
+pub opened-returns-in_ok-o-in-Replicate-clause-sited : goal.opened-returns-in_ok-o-in-Replicate-clause-sited
+opened-returns-in_ok-o-in-Replicate-clause-sited t c widths read =
+    ap (λ (f : SitedIn). f c.args.names.now widths) c.in_ok-o-in-Replicate.ensures.sited
+    ∙ c.in_ok-word-in-Replicate.ensures.sited widths (read_replicate widths c.args.sites.now c.args.names.now c.args.x.now _ _ _ _ _ _ c.in-Replicate.is c.as_slice-in-Replicate.ensures read)
+
+pub joined-returns-clause-sited : goal.joined-returns-clause-sited
+joined-returns-clause-sited t c widths read = ap (λ (f : SitedIn). f c.args.names.now widths) (c.leaf.ensures.sited ∙ c.side_by_side.ensures.sited) ∙ c.loop-x.invariant.3 widths read

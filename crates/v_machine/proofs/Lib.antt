@@ -14,3 +14,4 @@ pub mod FirstWords
 pub mod TargetCounts
 pub mod NumberedWords
 pub mod Accepted
+pub mod TypedWords

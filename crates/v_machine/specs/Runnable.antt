@@ -1,5 +1,5 @@
 -- Modules that a machine can be made of.
-use Rattle.std.specs.Prelude.{◌≡◌, ℕ, ◌^◌, ◌+◌, ◌==◌, List, [], ◌∷◌, map, Bool, true, ◌&&◌, if◌then◌else◌, nat_lt, slice_index, Option, None, Some}
+use Rattle.std.specs.Prelude.{◌≡◌, ℕ, ◌^◌, ◌+◌, ◌==◌, List, [], ◌∷◌, map, Bool, true, ◌&&◌, if◌then◌else◌, nat_lt, slice_index}
 use Rattle.std.specs.List.{list_all}
 use Rattle.lz_base.specs.declared.name.Port.{Port}
 use Rattle.v_meaning.specs.Declarations.{is_input, is_settled, is_variable, is_memory}
@@ -14,6 +14,7 @@ use Rattle.v_core.specs.Formed.{is_width}
 use Rattle.v_core.specs.FormedCores.{is_formed_core}
 use Rattle.v_core.specs.Sited.{is_sited}
 use Rattle.v_values.specs.Moments.{Shape, fit}
+use Rattle.v_order.specs.Firsts.{keeps_first}
 use Rattle.v_order.specs.Settling.{Settles}
 use Rattle.v_order.specs.Steady.{AtOnce, IsSteady}
 use Rattle.v_machine.specs.Executed.{is_sited_stmt, write_count}
@@ -64,13 +65,9 @@ process_counts (p ∷ processes) = write_count p.body + process_counts processes
 
 -- ---- first values
 
-abbrev pub fits_first : ℕ → Option ℕ → Bool
-fits_first width None = true
-fits_first width (Some value) = nat_lt value (2 ^ width)
-
 -- a name of 1 to 128 bits, to which its first value keeps
 abbrev pub is_word : Entry → Bool
-is_word e = is_width e.width && fits_first e.width e.first
+is_word e = is_width e.width && keeps_first e
 
 -- ---- modules
 

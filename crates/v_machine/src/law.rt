@@ -8,12 +8,16 @@ ghost use Rattle.v_meaning.specs.ProcessRules.{combinational_of};
 ghost use Rattle.v_meaning.specs.Uses.{uses_of};
 ghost use Rattle.v_core.specs.declared.modules.Core.{Core};
 ghost use Rattle.v_core.specs.Cores.{design_in};
+ghost use Rattle.v_core.specs.Formed.{is_width};
+ghost use Rattle.v_core.specs.FormedCores.{is_formed_core};
+ghost use Rattle.v_names.specs.Words.{AreWords};
 ghost use Rattle.v_values.specs.Moments.{fit};
 ghost use Rattle.v_order.specs.Numbered.{AreNumbered};
 ghost use Rattle.v_order.specs.Settling.{Settles};
-ghost use Rattle.v_machine.specs.Runnable.{CanRun, KeepsWords, keeps_parameter, shape_of};
+ghost use Rattle.v_typed.specs.Forms.{are_measured};
+ghost use Rattle.v_machine.specs.Runnable.{CanRun, KeepsWords, is_sited_core, keeps_parameter, shape_of};
 
-use v_order::{names_are_numbered, processes_are_steady};
+use v_order::{first_values_fit, names_are_numbered, processes_are_steady};
 
 /// Law: where the names of a module are numbered from 0, kind by kind, and parameters keep to their widths, each name has as
 /// many bits as the word of its number.
@@ -28,4 +32,14 @@ pub fn accepted_modules_run()
 {
     processes_are_steady();
     names_are_numbered();
+}
+
+/// Law: the typed form of a module keeps to words of 1 to 128 bits, where it has the module's names, these are words, its
+/// values and statements keep to their widths and its sites have the bits that are read there, each site has 1 to 128 bits,
+/// and each assign as many as its net.
+pub fn typed_modules_keep_words()
+    ensures { (m : Module) (c : Core) → c.names ≡ names_of m → is_formed_core c ≡ true → is_sited_core c ≡ true → AreWords c.names → are_measured c.names c.assigns ≡ true → list_all is_width (design_in c).sites ≡ true → KeepsWords c }
+{
+    names_are_numbered();
+    first_values_fit();
 }

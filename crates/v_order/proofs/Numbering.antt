@@ -1,10 +1,13 @@
 -- The declared names of a module are numbered as they are declared, those of each kind from 0 on, each once.
 use Rattle.std.proofs.Common.{◌≡◌, ◌≤◌, ◌<◌, ◌+◌, ℕ, suc, List, [], ◌∷◌, ◌++◌, flat_map, filter, fold, Bool, true, false, not, cond, Option, refl, sym, ap, subst, ◌∙◌, inl, inr, ◌⊎◌, zero-add, append_assoc, append-nil, arith}
-use Rattle.std.specs.Prelude.{⊤, ◌==◌, ◌&&◌, if◌then◌else◌}
-use Rattle.std.proofs.lemmas.Bool.{cases_eq}
+use Rattle.std.specs.Prelude.{⊤, ◌==◌, ◌^◌, ◌&&◌, if◌then◌else◌, max, None, Some}
+use Rattle.std.specs.List.{list_all}
+use Rattle.std.proofs.lemmas.Bool.{cases_eq, and_parts, lt-ltb}
+use Rattle.std.proofs.lemmas.Nat.{mod_below, pow_pos}
 use Rattle.std.proofs.lemmas.List.Recursion.{is_count_by}
 use Rattle.lz_base.specs.Names.{is_among}
 use Rattle.v_syntax.specs.declared.expr.Range.{Range}
+use Rattle.v_syntax.specs.declared.expr.Placed.{Placed}
 use Rattle.v_syntax.specs.declared.module.Variable.{Variable}
 use Rattle.v_syntax.specs.declared.module.Variable.TheVariants as v
 use Rattle.v_syntax.specs.declared.module.ParameterGroup.{ParameterGroup}
@@ -18,13 +21,25 @@ use Rattle.v_syntax.specs.declared.module.Module.{Module}
 use Rattle.v_meaning.specs.declared.names.Kind.{Kind}
 use Rattle.v_meaning.specs.declared.names.Kind.TheVariants as k
 use Rattle.v_meaning.specs.declared.names.Entry.{Entry}
-use Rattle.v_meaning.specs.Declarations.{Roles, roles_of, combinational_names, is_input, is_settled, is_variable, is_memory, count_of, is_event, range_width, variable_kind, port_kind, parameter_entry, port_entry, wire_entry, variable_entry, behind_parameters, behind_ports, behind_item, behind_header, names_of}
+use Rattle.v_meaning.specs.Declarations.{Roles, roles_of, combinational_names, is_input, is_settled, is_variable, is_memory, count_of, is_event, range_width, first_value, variable_kind, port_kind, parameter_entry, port_entry, wire_entry, variable_entry, behind_parameters, behind_ports, behind_item, behind_header, names_of}
 use Rattle.v_meaning.specs.Uses.{item_process_uses, uses_of}
 use Rattle.v_meaning.specs.ProcessRules.{is_clocked, is_settled_variable, combinational_of}
+use Rattle.v_meaning.specs.Views.{no_view}
+use Rattle.v_meaning.specs.Senses.{Sense, assigned}
+use Rattle.v_meaning.specs.Expressions.{sense_of}
+use Rattle.v_order.specs.Firsts.{fits_first, keeps_first}
 use Rattle.v_order.specs.Numbered.{IsNext, AreNumbered}
 use Rattle.v_order.proofs.Settled.{Each}
 
 -- ---- what is kept from declaration to declaration
+
+-- the first value of a declaration is cut to its width
+first_fits : (names : List Entry) (range : Option Range) (value : Option Placed) → fits_first (range_width names range) (first_value names range value) ≡ true
+first_fits names range None = refl
+first_fits names range (Some x) =
+    let width : ℕ = range_width names range in
+    let x : Sense = sense_of names [] x.expr in
+    lt-ltb (assigned width x no_view) (2 ^ width) (mod_below (x.at (max width x.width) x.signed no_view) (2 ^ width) (pow_pos width))
 
 -- a kind that may be declared behind these names
 record Declared (roles : Roles) (names : List Entry) (kind : Kind) : Type 0 where
@@ -40,7 +55,7 @@ variable_case : (roles : Roles) (names : List Entry) (b : Bool) → (roles.combi
 variable_case roles names true out = record { next = refl; clocked = λ none. absurd (cc (out none)) }
 variable_case roles names false out = record { next = refl; clocked = λ none. refl }
 
-module _ (roles : Roles) (Q : List Entry → Type 0) (push : (names : List Entry) (e : Entry) → Q names → Declared roles names e.kind → Q (names ++ e ∷ [])) where
+module _ (roles : Roles) (Q : List Entry → Type 0) (push : (names : List Entry) (e : Entry) → Q names → Declared roles names e.kind → keeps_first e ≡ true → Q (names ++ e ∷ [])) where
   variable_declared : (names : List Entry) (name : List ℕ) → Declared roles names (variable_kind roles names name)
   variable_declared names name = variable_case roles names (is_among name roles.combinational) (ap (is_among name))
 
@@ -55,22 +70,22 @@ module _ (roles : Roles) (Q : List Entry → Type 0) (push : (names : List Entry
 
   parameters_keep : (names : List Entry) (group : ParameterGroup) → Q names → Q (behind_parameters names group)
   parameters_keep names group = fold_keeps (λ names s. names ++ parameter_entry names group s ∷ []) group.settings names
-      (λ names s h. push names (parameter_entry names group s) h (record { next = tt; clocked = λ none. refl }))
+      (λ names s h. push names (parameter_entry names group s) h (record { next = tt; clocked = λ none. refl }) refl)
 
   ports_keep : (names : List Entry) (group : PortGroup) → Q names → Q (behind_ports roles names group)
   ports_keep names group = fold_keeps (λ names d. names ++ port_entry roles names group d ∷ []) group.ports names
-      (λ names d h. push names (port_entry roles names group d) h (port_declared names group.kind group.range d.name.name))
+      (λ names d h. push names (port_entry roles names group d) h (port_declared names group.kind group.range d.name.name) (first_fits names group.range d.value))
 
   variable_keeps : (signed : Bool) (range : Option Range) (names : List Entry) (x : Variable) → Q names → Q (names ++ variable_entry roles names signed range x ∷ [])
-  variable_keeps signed range names (v.Plain d) h = push names (variable_entry roles names signed range (v.Plain d)) h (variable_declared names d.name.name)
+  variable_keeps signed range names (v.Plain d) h = push names (variable_entry roles names signed range (v.Plain d)) h (variable_declared names d.name.name) (first_fits names range d.value)
   variable_keeps signed range names (v.Memory name addresses) h =
-      push names (variable_entry roles names signed range (v.Memory name addresses)) h (record { next = refl; clocked = λ none. refl })
+      push names (variable_entry roles names signed range (v.Memory name addresses)) h (record { next = refl; clocked = λ none. refl }) refl
 
   item_keeps : (names : List Entry) (item : Item) → Q names → Q (behind_item roles names item)
   item_keeps names (i.Parameters group) = parameters_keep names group
   item_keeps names (i.LocalParameters group) = parameters_keep names group
   item_keeps names (i.Wires signed range nets) = fold_keeps (λ names d. names ++ wire_entry names signed range d ∷ []) nets names
-      (λ names d h. push names (wire_entry names signed range d) h (record { next = refl; clocked = λ none. refl }))
+      (λ names d h. push names (wire_entry names signed range d) h (record { next = refl; clocked = λ none. refl }) refl)
   item_keeps names (i.Regs signed range variables) = fold_keeps (λ names d. names ++ variable_entry roles names signed range d ∷ []) variables names (variable_keeps signed range)
   item_keeps names (i.Assigns settings) = λ h. h
   item_keeps names (i.Always event body) = λ h. h
@@ -79,7 +94,7 @@ module _ (roles : Roles) (Q : List Entry → Type 0) (push : (names : List Entry
   header_keeps m h = fold_keeps (behind_ports roles) m.ports (fold behind_parameters [] m.parameters) ports_keep (fold_keeps behind_parameters m.parameters [] parameters_keep h)
 
 -- what holds of no names and is kept by each declaration holds of those of a module
-names_keep : (m : Module) (Q : List Entry → Type 0) → Q [] → ((names : List Entry) (e : Entry) → Q names → Declared (roles_of m.items) names e.kind → Q (names ++ e ∷ [])) → Q (names_of m)
+names_keep : (m : Module) (Q : List Entry → Type 0) → Q [] → ((names : List Entry) (e : Entry) → Q names → Declared (roles_of m.items) names e.kind → keeps_first e ≡ true → Q (names ++ e ∷ [])) → Q (names_of m)
 names_keep m Q none push =
     let roles : Roles = roles_of m.items in
     fold_keeps roles Q push (behind_item roles) m.items (behind_header roles m) (item_keeps roles Q push) (header_keeps roles Q push m none)
@@ -92,7 +107,18 @@ numbered_push before (x ∷ names) e h next =
     (h.0, numbered_push (before ++ x ∷ []) names e h.1 (subst (λ l. IsNext l e.kind) (sym (append_assoc before (x ∷ []) names)) next))
 
 pub names_numbered : (m : Module) → AreNumbered [] (names_of m)
-names_numbered m = names_keep m (AreNumbered []) tt (λ names e h declared. numbered_push [] names e h declared.next)
+names_numbered m = names_keep m (AreNumbered []) tt (λ names e h declared fits. numbered_push [] names e h declared.next)
+
+-- ---- first values
+
+all_push : (names : List Entry) (e : Entry) → list_all keeps_first names ≡ true → keeps_first e ≡ true → list_all keeps_first (names ++ e ∷ []) ≡ true
+all_push [] e h own = ap (λ (b : Bool). b && true) own
+all_push (x ∷ names) e h own =
+    let r = and_parts (keeps_first x) (list_all keeps_first names) h in
+    λ i. r.0 i && all_push names e r.1 own i
+
+pub firsts_fit : (m : Module) → list_all keeps_first (names_of m) ≡ true
+firsts_fit m = names_keep m (λ names. list_all keeps_first names ≡ true) refl (λ names e h declared fits. all_push names e h fits)
 
 -- ---- no combinational variable
 
@@ -118,7 +144,7 @@ each_push P (y ∷ xs) x h own = (h.0, each_push P xs x h.1 own)
 pub names_clocked : (m : Module) → combinational_of (uses_of (names_of m) m) ≡ [] → Each IsClocked (names_of m)
 names_clocked m clocked =
     let none : combinational_names m.items ≡ [] = none_among (names_of m) m.items clocked in
-    names_keep m (Each IsClocked) tt (λ names e h declared. each_push IsClocked names e h (declared.clocked none))
+    names_keep m (Each IsClocked) tt (λ names e h declared fits. each_push IsClocked names e h (declared.clocked none))
 
 -- ---- one kind
 

@@ -5,3 +5,4 @@ pub mod Steady
 pub mod Numbered
 pub mod Apart
 pub mod Counting
+pub mod Firsts

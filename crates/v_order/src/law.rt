@@ -1,4 +1,5 @@
-ghost use Rattle.std.specs.Prelude.{◌≡◌, ◌↔◌, [], ℕ, List, length, Bool, None};
+ghost use Rattle.std.specs.Prelude.{◌≡◌, ◌↔◌, [], ℕ, List, length, Bool, None, true};
+ghost use Rattle.std.specs.List.{list_all};
 ghost use Rattle.lz_base.specs.WordValue.{WordValue};
 ghost use Rattle.lz_machine.specs.Machine.{Realises};
 ghost use Rattle.v_syntax.specs.declared.expr.Expr.{Expr};
@@ -18,6 +19,7 @@ ghost use Rattle.v_meaning.specs.Acts.{Acts, alone};
 ghost use Rattle.v_meaning.specs.Designs.{Design, Does, InAnyOrder, InTextOrder, IsCycle, IsIncompleteAt, IsOutcome, IsSettled, cycle_bits, words_from};
 ghost use Rattle.v_order.specs.Apart.{AreApart, Owners};
 ghost use Rattle.v_order.specs.Counting.{IsCounted, IsShortAt, steps_in_order};
+ghost use Rattle.v_order.specs.Firsts.{keeps_first};
 ghost use Rattle.v_order.specs.Numbered.{AreNumbered};
 ghost use Rattle.v_order.specs.Reads.{nets_read, nets_read_by};
 ghost use Rattle.v_order.specs.Settling.{ActsLookOnlyAt, LooksOnlyAt, Settles, settled_by, with_nets};
@@ -100,4 +102,9 @@ pub fn every_schedule_does_the_same()
 /// numbered from 0 in the order of their declarations.
 pub fn names_are_numbered()
     ensures { (m : Module) → AreNumbered [] (names_of m) }
+{}
+
+/// Law: the first value of each name of a module keeps to the name's width, to which it is cut (IEEE Std 1364-2005, 6.2.1).
+pub fn first_values_fit()
+    ensures { (m : Module) → list_all keeps_first (names_of m) ≡ true }
 {}

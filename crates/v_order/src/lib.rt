@@ -12,7 +12,7 @@ mod law;
 mod ordering;
 
 pub use law::{
-    any_order_cycles, every_schedule_does_the_same, modules_cycle_in_text_order,
+    any_order_cycles, every_schedule_does_the_same, first_values_fit, modules_cycle_in_text_order,
     names_are_numbered, nets_settle_in_one_way, processes_are_apart, processes_are_steady,
     reads_decide, schedules_are_counted, text_order_cycles,
 };

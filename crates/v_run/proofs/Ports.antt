@@ -14,7 +14,7 @@ use Rattle.v_core.specs.Cores.{design_in}
 use Rattle.v_core.specs.declared.modules.Core.{Core}
 use Rattle.v_core.specs.Values.{entry_at}
 use Rattle.v_core.specs.Formed.{is_width}
-use Rattle.v_machine.specs.Runnable.{fits_first, is_word, port_widths}
+use Rattle.v_machine.specs.Runnable.{is_word, port_widths}
 use Rattle.v_values.specs.Seen.{widths_of}
 
 of_kind : (kind : Kind) (e : Entry) (names : List Entry) →
@@ -54,7 +54,7 @@ second_of false b h = absurd (cc h)
 -- a name that is a word has 1 to 128 bits
 pub word_keeps : (e : Entry) → is_word e ≡ true → (1 ≤ e.width) × (e.width ≤ 128)
 word_keeps e h =
-    let width : is_width e.width ≡ true = first_of (is_width e.width) (fits_first e.width e.first) h in
+    let width : is_width e.width ≡ true = first_of (is_width e.width) _ h in
     (leb-true 1 e.width (first_of (nat_le 1 e.width) (nat_le e.width 128) width), leb-true e.width 128 (second_of (nat_le 1 e.width) (nat_le e.width 128) width))
 
 -- the name of a number has 1 to 128 bits, also where there are not so many

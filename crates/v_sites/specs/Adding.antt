@@ -11,11 +11,13 @@ use Rattle.v_meaning.specs.Statements.{label_items}
 use Rattle.v_meaning.specs.Proper.{is_sound}
 use Rattle.v_core.specs.declared.modules.TypedSite.{TypedSite}
 use Rattle.v_typing.specs.Sound.{all_sound, is_sound_stmt, is_sound_value}
-use Rattle.v_sites.specs.Found.{site_in}
+use Rattle.v_sites.specs.Found.{site_in, are_words}
 
 -- If what is walked over is sound, these are its sites, and they stand behind those that were found before.
+-- These have 1 to 128 bits.
 pub record Adds (sound : Bool) (old new : List TypedSite) (sites : List Site) : Type 0 where
   pub added : sound ≡ true → map site_in new ≡ map site_in old ++ sites
+  pub words : are_words new ≡ are_words old
 
 -- ---- the sites of what stands in lists, and whether it can be typed
 

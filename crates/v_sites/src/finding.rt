@@ -2,7 +2,7 @@ ghost use Rattle.std.specs.Prelude.{◌≡◌, IfOk, OnOk, true, map, flat_map};
 ghost use Rattle.std.specs.List.{list_all};
 ghost use Rattle.v_meaning.specs.Sites.{item_sites, module_sites, value_sites};
 ghost use Rattle.v_typing.specs.Sound.{are_sound_items, is_sound_item, is_sound_value};
-ghost use Rattle.v_sites.specs.Found.{site_in};
+ghost use Rattle.v_sites.specs.Found.{site_in, are_words};
 ghost use Rattle.v_sites.specs.Adding.{Adds, net_sites, is_sound_net, setting_sites, is_sound_setting};
 
 use crate::exprs::add_expr;
@@ -76,12 +76,13 @@ fn add_item(
 }
 
 /// The sites of a module over its declared names, in text order: its numbers with x bits, and its selects whose index is no
-/// constant expression in range; the place of a site is its first byte. Constant expressions and the targets of assignments
+/// constant expression in range; the place of a site is its first byte, and it has 1 to 128 bits. Constant expressions and the targets of assignments
 /// are none. The module can be typed, as each one can that keeps the rules of declarations and expressions.
 /// `OutOfMemory` is the only other answer. The work is linear in the module, but for the look-ups of names.
 pub fn sites(alloc: Global, names: &Names, module: &Module) -> Result<Items<TypedSite>, OutOfMemory>
     requires sound { are_sound_items names.now «module».now.items ≡ true }
-    ensures { IfOk result (λ found. map site_in found ≡ module_sites names.now «module».now.items) }
+    ensures sites { IfOk result (λ found. map site_in found ≡ module_sites names.now «module».now.items) }
+    ensures words { IfOk result (λ found. are_words found ≡ true) }
 {
     let mut found = Items::new(alloc);
     for item in module.items.as_slice() {

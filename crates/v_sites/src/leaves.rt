@@ -1,4 +1,4 @@
-ghost use Rattle.std.specs.Prelude.{◌≡◌, [], ◌∷◌, IfOk, OnOk, true, is_some, not};
+ghost use Rattle.std.specs.Prelude.{◌≡◌, ◌≤◌, [], ◌∷◌, IfOk, OnOk, true, is_some, not};
 ghost use Rattle.v_meaning.specs.declared.names.Entry.{Entry};
 ghost use Rattle.v_meaning.specs.Literals.{literal_of, open_bits, is_wrong_number};
 ghost use Rattle.v_meaning.specs.Names.{entry_of, within, within_entry};
@@ -17,12 +17,15 @@ use v_syntax::{Expr, Ident, Number};
 
 // Appends a site.
 fn add(found: &mut Items<TypedSite>, at: u64, width: u32) -> Result<(), OutOfMemory>
+    requires has_bit { 1 ≤ width }
+    requires within { width ≤ 128 }
     ensures { OnOk result (Adds true found.old found.new (record { at = at; width = width } ∷ [])) }
 {
     Ok(found.push(TypedSite { at, width })?)
 }
 
 // Appends the site that a number is, if it has x bits; nothing for a number without its form.
+#[tactic(auto, using(crate::proofs::LeafSites::open_few))]
 pub(crate) fn add_number(number: &Number, found: &mut Items<TypedSite>) -> Result<(), OutOfMemory>
     ensures { OnOk result (Adds (not (is_wrong_number number.now.spelling)) found.old found.new (number_site number.now.at (open_bits (literal_of number.now.spelling)))) }
 {
@@ -69,7 +72,11 @@ fn is_fixed(alloc: Global, names: &Names, known: &Known, index: &Expr) -> Result
 
 // How many bits a select of a name has: one, or those of a memory's word.
 fn select_width(known: &Known) -> u32
-    ensures { (e : Entry) → known.now.kind ≡ e.kind → known.now.width ≡ e.width → result ≡ select_width e.kind e }
+    requires has_bit { 1 ≤ known.now.width }
+    requires within { known.now.width ≤ 128 }
+    ensures value { (e : Entry) → known.now.kind ≡ e.kind → known.now.width ≡ e.width → result ≡ select_width e.kind e }
+    ensures has_bit { 1 ≤ result }
+    ensures within { result ≤ 128 }
 {
     match known.kind {
         Kind::Memory(..) => known.width,

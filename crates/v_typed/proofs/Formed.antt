@@ -13,7 +13,7 @@ use Rattle.v_core.specs.FormedCores.{is_formed_stmt}
 use Rattle.v_core.specs.OpenForms.{OpenFormed, body_form}
 use Rattle.v_typed.specs.Forms.{are_formed_assigns, are_formed_processes}
 
-both : {a b : Bool} → a ≡ true → b ≡ true → (a && b) ≡ true
+pub both : {a b : Bool} → a ≡ true → b ≡ true → (a && b) ≡ true
 both p q = λ i. p i && q i
 
 second : (a b : Bool) → (a && b) ≡ true → b ≡ true
@@ -28,7 +28,7 @@ side_keeps names side t width wide p is h few =
     second ((formed t names).width == wide) (formed t names).kept
     (ap (λ (f : FormedIn). has wide (f names)) p ∙ h.at wide side.signed (omega (arith, is)) (omega (arith, is, few, word)))
 
-push : {X : Type 0} (test : X → Bool) (old : List X) (x : X) → test x ≡ true → list_all test (old ++ x ∷ []) ≡ list_all test old
+pub push : {X : Type 0} (test : X → Bool) (old : List X) (x : X) → test x ≡ true → list_all test (old ++ x ∷ []) ≡ list_all test old
 push test [] x h = both h refl
 push test (y ∷ ys) x h = ap (λ (b : Bool). test y && b) (push test ys x h)
 

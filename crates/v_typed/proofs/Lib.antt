@@ -6,3 +6,4 @@ pub mod SoundItems
 pub mod TypedDesigns
 pub mod Formed
 pub mod CopiedNames
+pub mod Measured

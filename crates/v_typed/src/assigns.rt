@@ -9,7 +9,7 @@ ghost use Rattle.v_meaning.specs.Modules.{net_assign, wire_assign};
 ghost use Rattle.v_core.specs.Values.{typed_value};
 ghost use Rattle.v_core.specs.Cores.{assign_in};
 ghost use Rattle.v_core.specs.Formed.{formed};
-ghost use Rattle.v_typed.specs.Forms.{are_formed_assigns};
+ghost use Rattle.v_typed.specs.Forms.{are_formed_assigns, are_measured};
 ghost use Rattle.v_typing.specs.Sound.{is_sound_value};
 
 use lz_base::{Items, OutOfMemory};
@@ -49,6 +49,7 @@ fn add_assign(
     requires sound { is_sound names.now value.now ≡ true }
     ensures value { OnOk result (map (assign_in names.now) assigns.new ≡ map (assign_in names.now) assigns.old ++ net_assign names.now sites.now name.now value.now) }
     ensures form { OnOk result (are_formed_assigns names.now assigns.new ≡ are_formed_assigns names.now assigns.old) }
+    ensures measured { OnOk result (are_measured names.now assigns.new ≡ are_measured names.now assigns.old) }
 {
     let known = names.known(&name.name);
     match known.kind {
@@ -74,6 +75,7 @@ fn add_value(
     requires sound { is_sound_value names.now value.now ≡ true }
     ensures value { OnOk result (map (assign_in names.now) assigns.new ≡ map (assign_in names.now) assigns.old ++ wire_assign names.now sites.now name.now value.now) }
     ensures form { OnOk result (are_formed_assigns names.now assigns.new ≡ are_formed_assigns names.now assigns.old) }
+    ensures measured { OnOk result (are_measured names.now assigns.new ≡ are_measured names.now assigns.old) }
 {
     match value {
         None => Ok(()),
@@ -92,6 +94,7 @@ pub(crate) fn add_wires(
     requires sound { list_all (λ (d : Declared). is_sound_value names.now d.value) wires.now ≡ true }
     ensures value { OnOk result (map (assign_in names.now) assigns.new ≡ map (assign_in names.now) assigns.old ++ flat_map (λ (d : Declared). wire_assign names.now sites.now d.name d.value) wires.now) }
     ensures form { OnOk result (are_formed_assigns names.now assigns.new ≡ are_formed_assigns names.now assigns.old) }
+    ensures measured { OnOk result (are_measured names.now assigns.new ≡ are_measured names.now assigns.old) }
 {
     for wire in wires {
         add_value(alloc, names, sites, &wire.name, &wire.value, assigns)?;
@@ -110,6 +113,7 @@ pub(crate) fn add_assigns(
     requires sound { list_all (λ (s : Setting). is_sound names.now s.value.expr) settings.now ≡ true }
     ensures value { OnOk result (map (assign_in names.now) assigns.new ≡ map (assign_in names.now) assigns.old ++ flat_map (λ (s : Setting). net_assign names.now sites.now s.name s.value.expr) settings.now) }
     ensures form { OnOk result (are_formed_assigns names.now assigns.new ≡ are_formed_assigns names.now assigns.old) }
+    ensures measured { OnOk result (are_measured names.now assigns.new ≡ are_measured names.now assigns.old) }
 {
     for setting in settings {
         add_assign(

@@ -1,4 +1,5 @@
 ghost use Rattle.std.specs.Prelude.{◌≡◌, None, Some, IfOk, true, map};
+ghost use Rattle.std.specs.List.{list_all};
 ghost use Rattle.lz_base.specs.Answers.{IfFault};
 ghost use Rattle.v_syntax.specs.declared.module.Module.{Module};
 ghost use Rattle.v_meaning.specs.Broken.{places_of, first_fault, typing_rules};
@@ -6,10 +7,12 @@ ghost use Rattle.v_meaning.specs.Declarations.{names_of};
 ghost use Rattle.v_meaning.specs.Sites.{module_sites};
 ghost use Rattle.v_meaning.specs.Modules.{design_of};
 ghost use Rattle.v_core.specs.Cores.{design_in};
+ghost use Rattle.v_core.specs.Formed.{is_width};
 ghost use Rattle.v_core.specs.FormedCores.{is_formed_core};
 ghost use Rattle.v_names.specs.Words.{AreWords};
 ghost use Rattle.v_typing.specs.Sound.{are_sound_items};
 ghost use Rattle.v_sites.specs.Found.{site_in};
+ghost use Rattle.v_typed.specs.Forms.{are_measured};
 
 use crate::copying::{copy_of, site_places};
 use crate::parts::parts_of;
@@ -29,7 +32,8 @@ pub fn kept_is_sound()
 
 /// The typed form of a module that keeps the rules of declarations and expressions (E4 to E13), over its declared names; it
 /// does in each cycle what the module does (IEEE Std 1364-2005, 4, 5, 6, 9 and 12), and each expression in it has 1 to 128
-/// bits, and its operands as many as its operators take. `OutOfMemory` is the only other answer; it also comes where there are 2^32 names or sites. The work is n log n in the module.
+/// bits, and its operands as many as its operators take. Each name and each site has 1 to 128 bits too, and each assign as many as
+/// its net. `OutOfMemory` is the only other answer; it also comes where there are 2^32 names or sites. The work is n log n in the module.
 pub fn typed(alloc: Global, names: &Names, module: &Module) -> Result<Core, OutOfMemory>
     requires declared { names.now ≡ names_of «module».now }
     requires kept { first_fault (places_of «module».now) typing_rules ≡ None }
@@ -38,6 +42,8 @@ pub fn typed(alloc: Global, names: &Names, module: &Module) -> Result<Core, OutO
     ensures sites { IfOk result (λ core. map site_in core.sites ≡ module_sites names.now «module».now.items) }
     ensures form { IfOk result (λ core. is_formed_core core ≡ true) }
     ensures words { IfOk result (λ core. AreWords core.names) }
+    ensures measured { IfOk result (λ core. are_measured core.names core.assigns ≡ true) }
+    ensures places { IfOk result (λ core. list_all is_width (design_in core).sites ≡ true) }
 {
     let found = sites(alloc, names, module)?;
     let places = site_places(alloc, found.as_slice())?;
@@ -67,6 +73,8 @@ pub fn elaborate(alloc: Global, module: &Module) -> Result<Core, Stop>
     ensures sites { IfOk result (λ core. map site_in core.sites ≡ module_sites (names_of «module».now) «module».now.items) }
     ensures form { IfOk result (λ core. is_formed_core core ≡ true) }
     ensures words { IfOk result (λ core. AreWords core.names) }
+    ensures measured { IfOk result (λ core. are_measured core.names core.assigns ≡ true) }
+    ensures places { IfOk result (λ core. list_all is_width (design_in core).sites ≡ true) }
 {
     let names = declared_names(alloc, module)?;
     Ok(typed(alloc, &names, module)?)

@@ -3,7 +3,7 @@ ghost use Rattle.v_syntax.specs.declared.module.Item.TheVariants as i;
 ghost use Rattle.v_meaning.specs.Modules.{item_assigns, item_clocked, item_combinational};
 ghost use Rattle.v_core.specs.Cores.{assign_in, acts_where};
 ghost use Rattle.v_typing.specs.Sound.{is_sound_stmt, is_sound_item, are_sound_items};
-ghost use Rattle.v_typed.specs.Forms.{are_formed_assigns, are_formed_processes};
+ghost use Rattle.v_typed.specs.Forms.{are_formed_assigns, are_formed_processes, are_measured};
 ghost use Rattle.v_typed.specs.Processes as edges;
 
 use crate::assigns::{add_assigns, add_wires};
@@ -64,6 +64,7 @@ fn add_item(
     ensures combinational { OnOk result (acts_where (λ p. not p.clocked) names.now parts.new.processes ≡ acts_where (λ p. not p.clocked) names.now parts.old.processes ++ item_combinational names.now sites.now item.now) }
     ensures clocked { OnOk result (acts_where (λ p. p.clocked) names.now parts.new.processes ≡ acts_where (λ p. p.clocked) names.now parts.old.processes ++ item_clocked names.now sites.now item.now) }
     ensures formed_assigns { OnOk result (are_formed_assigns names.now parts.new.assigns ≡ are_formed_assigns names.now parts.old.assigns) }
+    ensures measured { OnOk result (are_measured names.now parts.new.assigns ≡ are_measured names.now parts.old.assigns) }
     ensures formed_processes { OnOk result (are_formed_processes names.now parts.new.processes ≡ are_formed_processes names.now parts.old.processes) }
 {
     match item {
@@ -92,6 +93,7 @@ pub(crate) fn parts_of(
     ensures combinational { IfOk result (λ parts. acts_where (λ p. not p.clocked) names.now parts.processes ≡ flat_map (item_combinational names.now sites.now) items.now) }
     ensures clocked { IfOk result (λ parts. acts_where (λ p. p.clocked) names.now parts.processes ≡ flat_map (item_clocked names.now sites.now) items.now) }
     ensures formed_assigns { IfOk result (λ parts. are_formed_assigns names.now parts.assigns ≡ true) }
+    ensures measured { IfOk result (λ parts. are_measured names.now parts.assigns ≡ true) }
     ensures formed_processes { IfOk result (λ parts. are_formed_processes names.now parts.processes ≡ true) }
 {
     let mut parts = Parts {

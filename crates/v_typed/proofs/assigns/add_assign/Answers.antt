@@ -1,4 +1,5 @@
 use Rattle.v_typed.proofs.Formed.{assign_pushed}
+use Rattle.v_typed.proofs.Measured.{measured_pushed}
 use Rattle.v_typed.proofs.NetAssigns.{net_assigned, no_net}
 use Rattle.v_typed.proofs.assigns.add_assign.Goals as goal
 
@@ -13,3 +14,8 @@ returns-in_ok-push-in-Net-clause-value c =
 
 pub returns-in_default-clause-value : goal.returns-in_default-clause-value
 returns-in_default-clause-value c = no_net c.args.names.now c.args.sites.now c.args.name.now c.args.value.now _ _ c.known-known.ensures.kind c.in_default.not-Net
+
+pub returns-in_ok-push-in-Net-clause-measured : goal.returns-in_ok-push-in-Net-clause-measured
+returns-in_ok-push-in-Net-clause-measured c =
+    measured_pushed c.args.names.now c.args.name.now.name _ _ _ _ _ _ c.known-known.ensures.kind c.in-Net.is c.known-known.ensures.width
+    c.known-known.ensures.has_bit c.known-known.ensures.within c.in_ok-push-in-Net.ensures.ok

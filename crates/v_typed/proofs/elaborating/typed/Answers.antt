@@ -18,7 +18,7 @@ returns-clause-design c =
     let names = c.args.names.now in
     let places = c.in_ok-places.places in
     design_is c.args.module.now c.in_ok-name.name c.in_ok-entries.entries names c.in_ok-found.found places c.in_ok-outputs.outputs c.in_ok-parts.parts.assigns c.in_ok-parts.parts.processes
-    c.requires.declared c.in_ok-entries.ensures.copy (search rules) c.in_ok-found.ensures
+    c.requires.declared c.in_ok-entries.ensures.copy (search rules) c.in_ok-found.ensures.sites
     (c.in_ok-places.ensures ∙ ap (map (λ (s : TypedSite). s.at)) c.as_slice.ensures)
     (c.in_ok-outputs.ensures ∙ ap (λ l. map (entry_of names) (output_names l)) c.as_slice-3.ensures)
     (c.in_ok-parts.ensures.assigns ∙ ap (flat_map (item_assigns names places)) c.as_slice-2.ensures)
@@ -28,3 +28,6 @@ returns-clause-design c =
 pub returns-clause-form : goal.returns-clause-form
 returns-clause-form c =
     rw c.in_ok-entries.ensures.copy (λ i. c.in_ok-parts.ensures.formed_assigns i && c.in_ok-parts.ensures.formed_processes i)
+
+pub returns-clause-measured : goal.returns-clause-measured
+returns-clause-measured c = rw c.in_ok-entries.ensures.copy c.in_ok-parts.ensures.measured

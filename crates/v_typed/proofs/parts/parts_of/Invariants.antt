@@ -1,7 +1,7 @@
 use Rattle.std.proofs.Common.{◌≡◌, map, flat_map, take, not, true}
 use Rattle.v_meaning.specs.Modules.{item_assigns, item_combinational, item_clocked}
 use Rattle.v_core.specs.Cores.{assign_in, acts_where}
-use Rattle.v_typed.specs.Forms.{are_formed_assigns, are_formed_processes}
+use Rattle.v_typed.specs.Forms.{are_formed_assigns, are_formed_processes, are_measured}
 use Rattle.v_typed.proofs.parts.parts_of.Given as goal
 
 abbrev pub invariant-loop-item : goal.invariant-loop-item
@@ -11,3 +11,4 @@ invariant-loop-item l =
     × (acts_where (λ p. p.clocked) l.names l.parts.processes ≡ flat_map (item_clocked l.names l.sites) (take l.item-index l.items))
     × (are_formed_assigns l.names l.parts.assigns ≡ true)
     × (are_formed_processes l.names l.parts.processes ≡ true)
+    × (are_measured l.names l.parts.assigns ≡ true)

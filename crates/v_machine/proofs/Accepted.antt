@@ -10,6 +10,7 @@ use Rattle.v_meaning.specs.Uses.{uses_of}
 use Rattle.v_core.specs.declared.modules.Core.{Core}
 use Rattle.v_core.specs.Cores.{design_in}
 use Rattle.v_order.specs.Numbered.{AreNumbered}
+use Rattle.v_order.specs.Apart.{AreApart, Owners}
 use Rattle.v_order.specs.Settling.{Settles}
 use Rattle.v_order.specs.Steady.{AtOnce, IsSteady}
 use Rattle.v_machine.specs.Runnable.{CanRun, KeepsWords}
@@ -19,15 +20,15 @@ use Rattle.v_machine.proofs.NumberedWords.{numbered_fit}
 abbrev HaveNoCombinational : Type 0
 HaveNoCombinational = (m : Module) → combinational_of (uses_of (names_of m) m) ≡ [] → (design_of m).combinational ≡ []
 
-abbrev AreSteady : Type 0
-AreSteady =
+abbrev HaveApart : Type 0
+HaveApart =
     (m : Module) → first_fault (places_of m) typing_rules ≡ None → first_fault (places_of m) process_rules ≡ None → combinational_of (uses_of (names_of m) m) ≡ [] →
-    (order : List ℕ) → Settles (design_of m) order → (b : AtOnce) × IsSteady (design_of m) order b
+    (order : List ℕ) → Settles (design_of m) order → (b : AtOnce) × (o : Owners) × IsSteady (design_of m) order b × AreApart (design_of m) b o
 
-pub can_run : HaveNoCombinational → AreSteady → ((m : Module) → AreNumbered [] (names_of m)) → (m : Module) (c : Core) (order : List ℕ) →
+pub can_run : HaveNoCombinational → HaveApart → ((m : Module) → AreNumbered [] (names_of m)) → (m : Module) (c : Core) (order : List ℕ) →
     first_fault (places_of m) typing_rules ≡ None → first_fault (places_of m) process_rules ≡ None → combinational_of (uses_of (names_of m) m) ≡ [] →
     c.names ≡ names_of m → design_in c ≡ design_of m → Settles (design_of m) order → KeepsWords c → CanRun c order
-can_run clocked steady numbered m c order typed kept alone names design settles words = record {
+can_run clocked apart numbered m c order typed kept alone names design settles words = record {
   formed = words.formed;
   sited = words.sited;
   named = numbered_fit c (subst (AreNumbered []) (sym names) (numbered m)) words.parameters;
@@ -36,5 +37,5 @@ can_run clocked steady numbered m c order typed kept alone names design settles 
   measured = words.measured;
   clocked = ap (λ (d : Design). d.combinational) design ∙ clocked m alone;
   settles = subst (λ (d : Design). Settles d order) (sym design) settles;
-  steady = subst (λ (d : Design). (b : AtOnce) × IsSteady d order b) (sym design) (steady m typed kept alone order settles);
+  apart = subst (λ (d : Design). (b : AtOnce) × (o : Owners) × IsSteady d order b × AreApart d b o) (sym design) (apart m typed kept alone order settles);
 }

@@ -14,4 +14,8 @@ pub mod FirstWords
 pub mod TargetCounts
 pub mod NumberedWords
 pub mod Accepted
+<<<<<<< ours
 pub mod TypedWords
+=======
+mod Walking
+>>>>>>> theirs

@@ -25,7 +25,7 @@ outcome_is law m c before next order items inputs shown choice is runs same bits
     let shows_by : shown ≡ shown_by d order before inputs choice = shows ∙ ap (λ (o : List ℕ). shown_by d o before inputs choice) same in
     let goes_by : next ≡ next_by d order before inputs choice = goes ∙ ap (λ (o : List ℕ). next_by d o before inputs choice) same in
     let base : IsOutcome InTextOrder d before inputs choice (shown_by d order before inputs choice) (next_by d order before inputs choice) =
-    law d order runs.steady.0 before inputs choice runs.clocked runs.settles runs.steady.1 (bits ∙ sym (ap (λ (x : MachineValue). cycle_bits (design_in x.core)) is)) in
+    law d order runs.apart.0 before inputs choice runs.clocked runs.settles runs.apart.2 (bits ∙ sym (ap (λ (x : MachineValue). cycle_bits (design_in x.core)) is)) in
     subst (λ (x : MachineValue). IsOutcome InTextOrder (design_in x.core) x.store inputs choice shown next) is
     (subst (λ (s : List ℕ). IsOutcome InTextOrder d before inputs choice s next) (sym shows_by)
     (subst (λ (n : Store). IsOutcome InTextOrder d before inputs choice (shown_by d order before inputs choice) n) (sym goes_by) base))

@@ -1,5 +1,5 @@
 -- The steps of processes one after another, and the store behind writes.
-use Rattle.std.proofs.Common.{◌≡◌, ap, sym, ◌∙◌, refl, ℕ, List, [], ◌∷◌, map, Bool, true, false, cond}
+use Rattle.std.proofs.Common.{◌≡◌, ◌≤◌, arith, zero, suc, drop, ap, sym, ◌∙◌, refl, ℕ, List, [], ◌∷◌, map, Bool, true, false, cond}
 use Rattle.std.specs.Prelude.{if◌then◌else◌, filter}
 use Rattle.v_meaning.specs.Views.{View, Store, Place, Net, Variable, Word, Write, no_view, applied, written_at, with_bits}
 use Rattle.v_meaning.specs.Acts.{Acts}
@@ -8,6 +8,7 @@ use Rattle.v_meaning.specs.declared.names.Entry.{Entry}
 use Rattle.v_core.specs.declared.modules.TypedProcess.{TypedProcess}
 use Rattle.v_core.specs.Cores.{acts_where}
 use Rattle.v_core.specs.Statements.{acts_in}
+use Rattle.v_machine.specs.Runnable.{process_counts}
 use Rattle.v_order.specs.Stepping.{Stepping, all_finished, finished}
 
 abbrev pub is_clocked : TypedProcess → Bool
@@ -28,6 +29,12 @@ pub steps_next : (names : List Entry) (p : TypedProcess) (left more : List Typed
 steps_next names p left more s next whole is e before =
     ap (all_finished (acts_where is_clocked names more)) e ∙ sym (chosen p.clocked p (filter is_clocked more) names s)
     ∙ sym (ap (λ (ps : List TypedProcess). all_finished (acts_where is_clocked names ps) s) is) ∙ before
+
+pub left_less : (processes : List TypedProcess) (i : ℕ) → process_counts (drop i processes) ≤ process_counts processes
+left_less [] zero = omega arith
+left_less [] (suc i) = omega arith
+left_less (p ∷ processes) zero = omega arith
+left_less (p ∷ processes) (suc i) = omega (arith, left_less processes i)
 
 -- ---- the store
 

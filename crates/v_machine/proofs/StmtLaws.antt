@@ -21,6 +21,8 @@ use Rattle.v_core.specs.Sited.{SitedIn, is_sited}
 use Rattle.v_core.specs.Statements.{ActsIn, acts_in, acts_step, all_acts, arm_in_step, default_among, default_in, is_met_in, items_in, taken_in}
 use Rattle.v_machine.specs.Cases.{are_compared, are_kept_arms}
 use Rattle.v_machine.specs.Executed.{acts_of_arm, all_acts_in, are_sited_items, arm_count_step, arm_counts, arms_in, is_sited_stmt, sited_arm_step, sited_stmt_step, write_count, write_count_step, write_counts}
+use Rattle.v_meaning.specs.Views.{View}
+use Rattle.v_order.specs.Counting.{steps_of}
 use Rattle.v_order.specs.Stepping.{Stepping, finished}
 use Rattle.v_machine.proofs.Layers.{at_block, at_case}
 use Rattle.v_machine.proofs.Lists.{first_of, second_of, both_of, one_at, next_at}
@@ -59,6 +61,13 @@ pub case_acts : (x : TypedStmt) (subject : Typed) (arms more : List TypedArm) (n
 case_acts x subject arms more names s word is p q =
     ap (λ (f : ActsIn). finished (f names) s) (at_case acts_step arm_in_step x subject arms more is p)
     ∙ sym (ap (λ (n : ℕ). finished (taken_in (is_met_in names s.view n) (arms_in more) names (default_among (arms_in more) names)) s) q)
+
+pub case_steps : (x : TypedStmt) (subject : Typed) (arms more : List TypedArm) (names : List Entry) (v : View) (word : ℕ) → x ≡ e.Case subject arms → more ≡ arms →
+    word ≡ typed_value subject names v →
+    steps_of (acts_in x names) v ≡ 1 + steps_of (taken_in (is_met_in names v word) (arms_in more) names (default_among (arms_in more) names)) v
+case_steps x subject arms more names v word is p q =
+    let taken : ℕ → ℕ = λ n. steps_of (taken_in (is_met_in names v n) (arms_in more) names (default_among (arms_in more) names)) v in
+    omega (arith, ap (λ (f : ActsIn). steps_of (f names) v) (at_case acts_step arm_in_step x subject arms more is p), ap taken q)
 
 abbrev formed_arm : ℕ → List Entry → TypedArm → Bool
 formed_arm width names a = are_formed_items width (items_in a.label) names && is_formed_stmt a.body names
@@ -141,15 +150,15 @@ one_count (b ∷ arms) zero d h = omega arith
 one_count (b ∷ arms) (suc i) d h = omega (arith, one_count arms i d (omega arith))
 
 pub body_count : (x : TypedStmt) (subject : Typed) (arms more : List TypedArm) (i : ℕ) (d : TypedArm) → x ≡ e.Case subject arms → more ≡ arms →
-    i < length more → write_count (get_or more i d).body ≤ write_count x
+    i < length more → write_count (get_or more i d).body + 1 ≤ write_count x
 body_count x subject arms more i d is p within = omega (arith, one_count more i d within, at_case write_count_step arm_count_step x subject arms more is p)
 
 arms_counted : (arms : List TypedArm) → total (map count_of_arm arms) ≡ arm_counts arms
 arms_counted [] = refl
 arms_counted (a ∷ arms) = ap (λ (n : ℕ). write_count a.body + n) (arms_counted arms)
 
-pub case_count : (x : TypedStmt) (subject : Typed) (arms more : List TypedArm) → x ≡ e.Case subject arms → more ≡ arms → write_count x ≡ arm_counts more
-case_count x subject arms more is p = at_case write_count_step arm_count_step x subject arms more is p ∙ arms_counted more
+pub case_count : (x : TypedStmt) (subject : Typed) (arms more : List TypedArm) → x ≡ e.Case subject arms → more ≡ arms → write_count x ≡ 1 + arm_counts more
+case_count x subject arms more is p = at_case write_count_step arm_count_step x subject arms more is p ∙ ap (λ (n : ℕ). 1 + n) (arms_counted more)
 
 -- ---- the arm that is taken
 

@@ -37,15 +37,15 @@ sited_arm_step a names sites = are_sited_items (items_in a.label) names sites &&
 abbrev pub is_sited_stmt : TypedStmt → List Entry → List ℕ → Bool
 is_sited_stmt = fold-TypedStmt SitedIn SitedIn sited_stmt_step sited_arm_step
 
--- ---- writes
+-- ---- steps and writes
 
--- how many writes wait at once at most, when all its branches are taken
+-- how many steps a statement takes at most, and how many writes wait, when all its branches are taken: each branch is a step
 abbrev pub write_count_step : TypedStmt-F ℕ ℕ → ℕ
 write_count_step s.Null = 0
 write_count_step (s.Block body) = total body
-write_count_step (s.If condition one other) = one + other
-write_count_step (s.Case subject arms) = total arms
-write_count_step (s.Assign target kind value) = queue.write_count target
+write_count_step (s.If condition one other) = 1 + (one + other)
+write_count_step (s.Case subject arms) = 1 + total arms
+write_count_step (s.Assign target kind value) = 1 + queue.write_count target
 
 abbrev pub arm_count_step : TypedArm-F ℕ ℕ → ℕ
 arm_count_step a = a.body

@@ -3,3 +3,4 @@ pub mod Cases
 pub mod Runnable
 pub mod Machines
 pub mod Firsts
+pub mod Walked

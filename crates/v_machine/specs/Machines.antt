@@ -1,5 +1,5 @@
 -- What a machine shows in contracts, and what it keeps.
-use Rattle.std.specs.Prelude.{◌≡◌, ℕ, ◌≤◌, List, []}
+use Rattle.std.specs.Prelude.{◌≡◌, ℕ, ◌≤◌, ◌<◌, ◌^◌, List, []}
 use Rattle.v_meaning.specs.Views.{Store}
 use Rattle.v_core.specs.declared.modules.Core.{Core}
 use Rattle.v_values.specs.Moments.{MomentValue}
@@ -16,4 +16,5 @@ pub record IsReady (c : Core) (order : List ℕ) (now : MomentValue) (queue : Qu
   pub runs : CanRun c order
   pub shape : now.shape ≡ shape_of c
   pub empty : queue.writes ≡ []
+  pub counted : process_counts c.processes < 2 ^ 64
   pub room : process_counts c.processes ≤ queue.room

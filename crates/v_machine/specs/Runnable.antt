@@ -14,7 +14,11 @@ use Rattle.v_core.specs.Formed.{is_width}
 use Rattle.v_core.specs.FormedCores.{is_formed_core}
 use Rattle.v_core.specs.Sited.{is_sited}
 use Rattle.v_values.specs.Moments.{Shape, fit}
+<<<<<<< ours
 use Rattle.v_order.specs.Firsts.{keeps_first}
+=======
+use Rattle.v_order.specs.Apart.{AreApart, Owners}
+>>>>>>> theirs
 use Rattle.v_order.specs.Settling.{Settles}
 use Rattle.v_order.specs.Steady.{AtOnce, IsSteady}
 use Rattle.v_machine.specs.Executed.{is_sited_stmt, write_count}
@@ -72,7 +76,8 @@ is_word e = is_width e.width && keeps_first e
 -- ---- modules
 
 -- A module that breaks no rule, whose processes are all clocked, and an order in which its nets settle. All that is evaluated
--- keeps to its widths, each name and each site has a word of its own, and each assign as many bits as its net.
+-- keeps to its widths, each name and each site has a word of its own, and each assign as many bits as its net. Each variable
+-- and each memory belongs to one process, and no other one looks at it where it is written at once.
 pub record CanRun (c : Core) (order : List ℕ) : Type 0 where
   pub formed : is_formed_core c ≡ true
   pub sited : is_sited_core c ≡ true
@@ -82,7 +87,7 @@ pub record CanRun (c : Core) (order : List ℕ) : Type 0 where
   pub measured : list_all (is_measured (shape_of c)) c.assigns ≡ true
   pub clocked : (design_in c).combinational ≡ []
   pub settles : Settles (design_in c) order
-  pub steady : (b : AtOnce) × IsSteady (design_in c) order b
+  pub apart : (b : AtOnce) × (o : Owners) × IsSteady (design_in c) order b × AreApart (design_in c) b o
 
 -- A typed module all of whose values, statements and names keep to words of 1 to 128 bits.
 pub record KeepsWords (c : Core) : Type 0 where

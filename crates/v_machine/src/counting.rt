@@ -29,7 +29,7 @@ fn parts_writes(parts: &[TypedTarget]) -> Option<usize>
     Some(all)
 }
 
-// How many writes a statement makes at most.
+// How many steps a statement takes at most, and how many writes it makes.
 #[cycle(counting)]
 fn stmt_writes(body: &TypedStmt) -> Option<usize>
     ensures { IfSome result (λ n. n ≡ write_count body.now) }
@@ -40,10 +40,13 @@ fn stmt_writes(body: &TypedStmt) -> Option<usize>
         TypedStmt::If(_, one, other) => {
             let count = stmt_writes(one.get())?;
             let more = stmt_writes(other.get())?;
-            count.checked_add(more)
+            count.checked_add(more)?.checked_add(1)
         }
-        TypedStmt::Case { arms, .. } => arms_writes(arms.as_slice()),
-        TypedStmt::Assign { target, .. } => target_writes(target.get()),
+        TypedStmt::Case { arms, .. } => {
+            let count = arms_writes(arms.as_slice())?;
+            count.checked_add(1)
+        }
+        TypedStmt::Assign { target, .. } => target_writes(target.get())?.checked_add(1),
     }
 }
 
@@ -71,7 +74,7 @@ fn arms_writes(arms: &[TypedArm]) -> Option<usize>
     Some(counted)
 }
 
-/// How many writes wait at once at most in a cycle of these processes; None where they are past counting.
+/// How many steps and writes a cycle of these processes has at most; None where they are past counting.
 pub fn process_writes(processes: &[TypedProcess]) -> Option<usize>
     ensures { IfSome result (λ n. n ≡ process_counts processes.now) }
 {

@@ -1,4 +1,4 @@
-ghost use Rattle.std.specs.Prelude.{◌≡◌, ◌≤◌, [], length};
+ghost use Rattle.std.specs.Prelude.{◌≡◌, ◌≤◌, ◌<◌, ◌^◌, [], length};
 ghost use Rattle.v_meaning.specs.Designs.{cycle_bits};
 ghost use Rattle.v_core.specs.Cores.{design_in};
 ghost use Rattle.v_values.specs.Seen.{values_of, widths_of};
@@ -40,6 +40,7 @@ pub fn run_cycle(
     requires runs { CanRun core.now order.now }
     requires shape { now.old.shape ≡ shape_of core.now }
     requires empty { queue.old.writes ≡ [] }
+    requires counted { process_counts core.now.processes < 2 ^ 64 }
     requires room { process_counts core.now.processes ≤ queue.old.room }
     requires inputs { widths_of input.now ≡ port_widths (design_in core.now).inputs }
     requires choice { length choice.now ≡ cycle_bits (design_in core.now) }

@@ -1,4 +1,4 @@
-ghost use Rattle.std.specs.Prelude.{◌≡◌, ◌≤◌, ◌+◌, [], if◌then◌else◌, length, true};
+ghost use Rattle.std.specs.Prelude.{◌≡◌, ◌≤◌, ◌<◌, ◌^◌, ◌+◌, [], if◌then◌else◌, length, true};
 ghost use Rattle.std.specs.List.{list_all};
 ghost use Rattle.v_core.specs.declared.modules.TypedProcess.{TypedProcess};
 ghost use Rattle.v_core.specs.Cores.{acts_where};
@@ -20,6 +20,7 @@ fn take_steps(process: &TypedProcess, names: &[Entry], now: &mut Moment, queue: 
     requires formed { is_formed_stmt process.now.body names.now ≡ true }
     requires sited { is_sited_stmt process.now.body names.now now.old.shape.sites ≡ true }
     requires fits { fit now.old.shape names.now ≡ true }
+    requires counted { write_count process.now.body < 2 ^ 64 }
     requires room { length queue.old.writes + write_count process.now.body ≤ queue.old.room }
     requires queued { all_fit now.old.shape queue.old.writes ≡ true }
     ensures finishes { stepping now.new queue.new ≡ (if process.now.clocked then finished (acts_in process.now.body names.now) (stepping now.old queue.old) else stepping now.old queue.old) }
@@ -29,7 +30,7 @@ fn take_steps(process: &TypedProcess, names: &[Entry], now: &mut Moment, queue: 
     ensures room { queue.new.room ≡ queue.old.room }
 {
     if process.clocked {
-        execute(&process.body, names, now, queue);
+        let _ = execute(&process.body, names, now, queue);
     }
 }
 
@@ -38,6 +39,7 @@ fn take_all_steps(processes: &[TypedProcess], names: &[Entry], now: &mut Moment,
     requires formed { list_all (λ (p : TypedProcess). is_formed_stmt p.body names.now) processes.now ≡ true }
     requires sited { list_all (λ (p : TypedProcess). is_sited_stmt p.body names.now now.old.shape.sites) processes.now ≡ true }
     requires fits { fit now.old.shape names.now ≡ true }
+    requires counted { process_counts processes.now < 2 ^ 64 }
     requires room { length queue.old.writes + process_counts processes.now ≤ queue.old.room }
     requires queued { all_fit now.old.shape queue.old.writes ≡ true }
     ensures finishes { stepping now.new queue.new ≡ all_finished (acts_where (λ (p : TypedProcess). p.clocked) names.now processes.now) (stepping now.old queue.old) }
@@ -56,6 +58,7 @@ pub fn edge(processes: &[TypedProcess], names: &[Entry], now: &mut Moment, queue
     requires formed { list_all (λ (p : TypedProcess). is_formed_stmt p.body names.now) processes.now ≡ true }
     requires sited { list_all (λ (p : TypedProcess). is_sited_stmt p.body names.now now.old.shape.sites) processes.now ≡ true }
     requires fits { fit now.old.shape names.now ≡ true }
+    requires counted { process_counts processes.now < 2 ^ 64 }
     requires room { process_counts processes.now ≤ queue.old.room }
     requires empty { queue.old.writes ≡ [] }
     ensures next { now.new.view.store ≡ next_of (all_finished (acts_where (λ (p : TypedProcess). p.clocked) names.now processes.now) (record { view = now.old.view; queue = [] })) }

@@ -1,4 +1,4 @@
-ghost use Rattle.std.specs.Prelude.{◌≡◌, ◌≤◌, ◌+◌, length, true};
+ghost use Rattle.std.specs.Prelude.{◌≡◌, ◌≤◌, ◌<◌, ◌^◌, ◌+◌, length, true};
 ghost use Rattle.std.specs.List.{list_all};
 ghost use Rattle.v_meaning.specs.Acts.{sequence};
 ghost use Rattle.v_meaning.specs.Statements.{assign_acts};
@@ -13,6 +13,7 @@ ghost use Rattle.v_values.specs.Moments.{fit};
 ghost use Rattle.v_values.specs.Queues as queues;
 ghost use Rattle.v_values.specs.Writes.{all_fit};
 ghost use Rattle.v_machine.specs.Executed.{all_acts_in, is_sited_stmt, stepping, write_count, write_counts};
+ghost use Rattle.v_order.specs.Counting.{steps_of};
 ghost use Rattle.v_order.specs.Stepping.{finished};
 
 use crate::cases::taken_arm;
@@ -50,11 +51,12 @@ fn carry_out(
 }
 
 /// Executes a statement from its first step to its end, with the nets as they are: its blocking writes are done, and its
-/// nonblocking ones stand behind the queue afterwards (IEEE Std 1364-2005, 9). The statement keeps to its widths, its sites
+/// nonblocking ones stand behind the queue afterwards (IEEE Std 1364-2005, 9). It answers how many steps were taken. The statement keeps to its widths, its sites
 /// and the names have as many bits as their words, and the queue has room for its writes. It takes no memory; each
 /// statement and each expression is visited once at most.
 #[cycle(executing)]
-pub fn execute(body: &TypedStmt, names: &[Entry], now: &mut Moment, queue: &mut Queue)
+pub fn execute(body: &TypedStmt, names: &[Entry], now: &mut Moment, queue: &mut Queue) -> usize
+    requires counted { write_count body.now < 2 ^ 64 }
     requires formed { is_formed_stmt body.now names.now ≡ true }
     requires sited { is_sited_stmt body.now names.now now.old.shape.sites ≡ true }
     requires fits { fit now.old.shape names.now ≡ true }
@@ -65,35 +67,42 @@ pub fn execute(body: &TypedStmt, names: &[Entry], now: &mut Moment, queue: &mut 
     ensures shape { now.new.shape ≡ now.old.shape }
     ensures few { length queue.new.writes ≤ length queue.old.writes + write_count body.now }
     ensures room { queue.new.room ≡ queue.old.room }
+    ensures steps { result ≡ steps_of (acts_in body.now names.now) now.old.view }
+    ensures bound { result ≤ write_count body.now }
 {
     match body {
-        TypedStmt::Null => {}
+        TypedStmt::Null => 0,
         TypedStmt::Block(all) => execute_all(all.as_slice(), names, now, queue),
         TypedStmt::If(condition, one, other) => {
             if value(condition, names, now) == 0 {
-                execute(other.get(), names, now, queue);
+                1 + execute(other.get(), names, now, queue)
             } else {
-                execute(one.get(), names, now, queue);
+                1 + execute(one.get(), names, now, queue)
             }
         }
         TypedStmt::Case { subject, arms } => {
             let word = value(subject, names, now);
             let arms = arms.as_slice();
-            if let Some(i) = taken_arm(arms, word, names, now) {
-                execute(&arms[i].body, names, now, queue);
+            match taken_arm(arms, word, names, now) {
+                Some(i) => 1 + execute(&arms[i].body, names, now, queue),
+                None => 1,
             }
         }
         TypedStmt::Assign {
             target,
             kind,
             value,
-        } => carry_out(target.get(), *kind, value, names, now, queue),
+        } => {
+            carry_out(target.get(), *kind, value, names, now, queue);
+            1
+        }
     }
 }
 
 // Statements one after another (9.8.1).
 #[cycle(executing)]
-fn execute_all(all: &[TypedStmt], names: &[Entry], now: &mut Moment, queue: &mut Queue)
+fn execute_all(all: &[TypedStmt], names: &[Entry], now: &mut Moment, queue: &mut Queue) -> usize
+    requires counted { write_counts all.now < 2 ^ 64 }
     requires formed { list_all (λ (x : TypedStmt). is_formed_stmt x names.now) all.now ≡ true }
     requires sited { list_all (λ (x : TypedStmt). is_sited_stmt x names.now now.old.shape.sites) all.now ≡ true }
     requires fits { fit now.old.shape names.now ≡ true }
@@ -104,8 +113,12 @@ fn execute_all(all: &[TypedStmt], names: &[Entry], now: &mut Moment, queue: &mut
     ensures shape { now.new.shape ≡ now.old.shape }
     ensures few { length queue.new.writes ≤ length queue.old.writes + write_counts all.now }
     ensures room { queue.new.room ≡ queue.old.room }
+    ensures steps { result ≡ steps_of (sequence (all_acts_in all.now names.now)) now.old.view }
+    ensures bound { result ≤ write_counts all.now }
 {
+    let mut steps = 0usize;
     for one in all {
-        execute(one, names, now, queue);
+        steps += execute(one, names, now, queue);
     }
+    steps
 }

@@ -17,7 +17,11 @@ ghost use Rattle.v_order.specs.Settling.{Settles};
 ghost use Rattle.v_typed.specs.Forms.{are_measured};
 ghost use Rattle.v_machine.specs.Runnable.{CanRun, KeepsWords, is_sited_core, keeps_parameter, shape_of};
 
+<<<<<<< ours
 use v_order::{first_values_fit, names_are_numbered, processes_are_steady};
+=======
+use v_order::{names_are_numbered, processes_are_apart, processes_are_steady};
+>>>>>>> theirs
 
 /// Law: where the names of a module are numbered from 0, kind by kind, and parameters keep to their widths, each name has as
 /// many bits as the word of its number.
@@ -31,6 +35,7 @@ pub fn accepted_modules_run()
     ensures { (m : Module) (c : Core) (order : List ℕ) → first_fault (places_of m) typing_rules ≡ None → first_fault (places_of m) process_rules ≡ None → combinational_of (uses_of (names_of m) m) ≡ [] → c.names ≡ names_of m → design_in c ≡ design_of m → Settles (design_of m) order → KeepsWords c → CanRun c order }
 {
     processes_are_steady();
+    processes_are_apart();
     names_are_numbered();
 }
 

@@ -16,6 +16,7 @@ mod executing;
 mod law;
 mod machine;
 mod making;
+mod scheduling;
 mod settling;
 
 pub use executing::execute;

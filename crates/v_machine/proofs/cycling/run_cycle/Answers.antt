@@ -25,6 +25,7 @@ edge-requires c =
       formed = processes_formed c.args.core.now c.args.order.now c.requires.runs _ _ c.as_slice-names.ensures shaped _ c.as_slice-2.ensures;
       sited = processes_sited c.args.core.now c.args.order.now c.requires.runs _ _ c.as_slice-names.ensures shaped _ c.as_slice-2.ensures;
       fits = names_fit c.args.core.now c.args.order.now c.requires.runs _ _ c.as_slice-names.ensures shaped;
+      counted = omega (arith, ap process_counts c.as_slice-2.ensures, c.requires.counted);
       room = omega (arith, ap process_counts c.as_slice-2.ensures, c.requires.room);
       empty = c.requires.empty;
     }

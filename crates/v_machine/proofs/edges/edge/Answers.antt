@@ -12,6 +12,7 @@ take_all_steps-requires c = record {
   formed = c.requires.formed;
   sited = c.requires.sited;
   fits = c.requires.fits;
+  counted = c.requires.counted;
   room = omega (arith, ap length c.requires.empty, c.requires.room);
   queued = ap (all_fit c.args.now.now.shape) c.requires.empty;
 }

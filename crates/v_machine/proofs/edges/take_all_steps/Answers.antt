@@ -6,7 +6,7 @@ use Rattle.v_values.specs.Writes.{all_fit}
 use Rattle.v_machine.specs.Executed.{is_sited_stmt}
 use Rattle.v_machine.specs.Runnable.{process_counts}
 use Rattle.v_machine.proofs.Lists.{next_is, one_of}
-use Rattle.v_machine.proofs.Stepped.{steps_next}
+use Rattle.v_machine.proofs.Stepped.{left_less, steps_next}
 use Rattle.v_machine.proofs.edges.take_all_steps.Goals as goal
 
 pub take_steps-requires : goal.take_steps-requires
@@ -18,6 +18,7 @@ take_steps-requires c =
       sited = ap (λ (s : Shape). is_sited_stmt c.process-item.result.body c.args.names.now s.sites) same
           ∙ one_of (λ (p : TypedProcess). is_sited_stmt p.body c.args.names.now c.args.now.now.shape.sites) c.args.processes.now _ _ c.loop-process-test.true c.process-item.is c.requires.sited;
       fits = ap (λ (s : Shape). fit s c.args.names.now) same ∙ c.requires.fits;
+      counted = omega (arith, ap process_counts next, left_less c.args.processes.now c.loop-process.process-index, c.requires.counted);
       room = omega (arith, ap process_counts next, c.loop-process.invariant.few, c.loop-process.invariant.room, c.requires.room);
       queued = ap (λ (s : Shape). all_fit s c.loop-process.queue.writes) same ∙ c.loop-process.invariant.queued;
     }

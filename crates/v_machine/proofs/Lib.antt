@@ -14,8 +14,5 @@ pub mod FirstWords
 pub mod TargetCounts
 pub mod NumberedWords
 pub mod Accepted
-<<<<<<< ours
 pub mod TypedWords
-=======
 mod Walking
->>>>>>> theirs

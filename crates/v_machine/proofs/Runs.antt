@@ -2,6 +2,7 @@
 use Rattle.std.proofs.Common.{◌≡◌, ◌∙◌, ℕ, List, true}
 use Rattle.std.specs.List.{list_all}
 use Rattle.v_meaning.specs.declared.names.Entry.{Entry}
+use Rattle.v_core.specs.SitedCores.{is_sited_stmt}
 use Rattle.v_core.specs.declared.modules.TypedAssign.{TypedAssign}
 use Rattle.v_core.specs.declared.modules.TypedProcess.{TypedProcess}
 use Rattle.v_core.specs.declared.modules.Core.{Core}
@@ -10,7 +11,6 @@ use Rattle.v_core.specs.Formed.{formed}
 use Rattle.v_core.specs.FormedCores.{is_formed_stmt}
 use Rattle.v_core.specs.Sited.{is_sited}
 use Rattle.v_values.specs.Moments.{Shape, fit}
-use Rattle.v_machine.specs.Executed.{is_sited_stmt}
 use Rattle.v_machine.specs.Runnable.{CanRun, is_measured, shape_of}
 use Rattle.v_machine.proofs.Lists.{first_of, second_of}
 

@@ -7,6 +7,7 @@ use Rattle.std.proofs.lemmas.List.Folds.{list_all-map}
 use Rattle.v_meaning.specs.Designs.{total}
 use Rattle.v_meaning.specs.Acts.{Acts, End, sequence}
 use Rattle.v_meaning.specs.declared.names.Entry.{Entry}
+use Rattle.v_core.specs.SitedCores.{are_sited_items, is_sited_stmt, sited_arm_step, sited_stmt_step}
 use Rattle.v_core.specs.declared.typed.Typed.{Typed}
 use Rattle.v_core.specs.declared.statement.TypedItem.{TypedItem}
 use Rattle.v_core.specs.declared.statement.TypedLabel.{TypedLabel}
@@ -20,7 +21,7 @@ use Rattle.v_core.specs.FormedCores.{KeptIn, KeptArm, are_formed_items, formed_a
 use Rattle.v_core.specs.Sited.{SitedIn, is_sited}
 use Rattle.v_core.specs.Statements.{ActsIn, acts_in, acts_step, all_acts, arm_in_step, default_among, default_in, is_met_in, items_in, taken_in}
 use Rattle.v_machine.specs.Cases.{are_compared, are_kept_arms}
-use Rattle.v_machine.specs.Executed.{acts_of_arm, all_acts_in, are_sited_items, arm_count_step, arm_counts, arms_in, is_sited_stmt, sited_arm_step, sited_stmt_step, write_count, write_count_step, write_counts}
+use Rattle.v_machine.specs.Executed.{acts_of_arm, all_acts_in, arm_count_step, arm_counts, arms_in, write_count, write_count_step, write_counts}
 use Rattle.v_meaning.specs.Views.{View}
 use Rattle.v_order.specs.Counting.{steps_of}
 use Rattle.v_order.specs.Stepping.{Stepping, finished}

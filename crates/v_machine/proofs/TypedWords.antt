@@ -9,6 +9,7 @@ use Rattle.v_meaning.specs.declared.names.Kind.TheVariants as k
 use Rattle.v_meaning.specs.declared.names.Entry.{Entry}
 use Rattle.v_meaning.specs.Declarations.{names_of}
 use Rattle.v_names.specs.Words.{AreWords, FitsKind}
+use Rattle.v_core.specs.SitedCores.{is_sited_core}
 use Rattle.v_core.specs.declared.modules.TypedAssign.{TypedAssign}
 use Rattle.v_core.specs.declared.modules.Core.{Core}
 use Rattle.v_core.specs.Cores.{design_in}
@@ -18,7 +19,7 @@ use Rattle.v_values.specs.Moments.{Shape, fit, has_width}
 use Rattle.v_order.specs.Firsts.{keeps_first}
 use Rattle.v_order.specs.Numbered.{AreNumbered}
 use Rattle.v_typed.specs.Forms.{are_measured, is_measured_over, is_net_at}
-use Rattle.v_machine.specs.Runnable.{KeepsWords, is_measured, is_sited_core, is_word, keeps_parameter, keeps_value, shape_of}
+use Rattle.v_machine.specs.Runnable.{KeepsWords, is_measured, is_word, keeps_parameter, keeps_value, shape_of}
 use Rattle.v_machine.proofs.Lists.{first_of, second_of, both_of}
 use Rattle.v_machine.proofs.NumberedWords.{numbered_fit}
 

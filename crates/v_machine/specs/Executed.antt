@@ -1,41 +1,18 @@
 -- What a statement must keep so that it can be executed over words, and what it leaves (1364-2005, 9).
-use Rattle.std.specs.Prelude.{ℕ, ◌+◌, List, [], ◌∷◌, map, Bool, true, ◌&&◌, Option, None, Some, slice_get}
-use Rattle.std.specs.List.{list_all}
+use Rattle.std.specs.Prelude.{ℕ, ◌+◌, List, [], ◌∷◌, map, Option, None, Some, slice_get}
 use Rattle.v_meaning.specs.Acts.{Acts}
 use Rattle.v_meaning.specs.Designs.{total}
 use Rattle.v_meaning.specs.declared.names.Entry.{Entry}
-use Rattle.v_core.specs.declared.statement.TypedItem.{TypedItem}
 use Rattle.v_core.specs.declared.statement.TypedArm.{TypedArm}
 use Rattle.v_core.specs.declared.statement.TypedStmt.{TypedStmt}
 use Rattle.v_core.specs.declared.statement.TypedStmt.TheOpen.{TypedStmt-F, TypedArm-F}
 use Rattle.v_core.specs.declared.statement.TypedStmt.TheOpen as s
 use Rattle.v_core.specs.declared.statement.TypedStmt.TheFolds.{fold-TypedStmt}
-use Rattle.v_core.specs.Sited.{SitedIn, is_sited}
-use Rattle.v_core.specs.Statements.{ArmIn, acts_in, items_in}
-use Rattle.v_values.specs.Kept.{is_sited_target}
+use Rattle.v_core.specs.Statements.{ArmIn, acts_in}
 use Rattle.v_values.specs.Moments.{MomentValue}
 use Rattle.v_values.specs.Queues.{QueueValue}
 use Rattle.v_values.specs.Queues as queue
 use Rattle.v_order.specs.Stepping.{Stepping}
-
--- ---- sites
-
--- the sites of a statement have as many bits as are read there
-abbrev pub sited_stmt_step : TypedStmt-F SitedIn SitedIn → List Entry → List ℕ → Bool
-sited_stmt_step s.Null names sites = true
-sited_stmt_step (s.Block body) names sites = list_all (λ (one : SitedIn). one names sites) body
-sited_stmt_step (s.If condition one other) names sites = is_sited condition names sites && (one names sites && other names sites)
-sited_stmt_step (s.Case subject arms) names sites = is_sited subject names sites && list_all (λ (arm : SitedIn). arm names sites) arms
-sited_stmt_step (s.Assign target kind value) names sites = is_sited_target target names sites && is_sited value names sites
-
-abbrev pub are_sited_items : List TypedItem → List Entry → List ℕ → Bool
-are_sited_items items names sites = list_all (λ (item : TypedItem). is_sited item.value names sites) items
-
-abbrev pub sited_arm_step : TypedArm-F SitedIn SitedIn → SitedIn
-sited_arm_step a names sites = are_sited_items (items_in a.label) names sites && a.body names sites
-
-abbrev pub is_sited_stmt : TypedStmt → List Entry → List ℕ → Bool
-is_sited_stmt = fold-TypedStmt SitedIn SitedIn sited_stmt_step sited_arm_step
 
 -- ---- steps and writes
 

@@ -6,22 +6,19 @@ use Rattle.v_meaning.specs.Declarations.{is_input, is_settled, is_variable, is_m
 use Rattle.v_meaning.specs.declared.names.Kind.{Kind}
 use Rattle.v_meaning.specs.declared.names.Kind.TheVariants.{Parameter}
 use Rattle.v_meaning.specs.declared.names.Entry.{Entry}
+use Rattle.v_core.specs.SitedCores.{is_sited_core}
 use Rattle.v_core.specs.declared.modules.TypedAssign.{TypedAssign}
 use Rattle.v_core.specs.declared.modules.TypedProcess.{TypedProcess}
 use Rattle.v_core.specs.declared.modules.Core.{Core}
 use Rattle.v_core.specs.Cores.{design_in}
 use Rattle.v_core.specs.Formed.{is_width}
 use Rattle.v_core.specs.FormedCores.{is_formed_core}
-use Rattle.v_core.specs.Sited.{is_sited}
 use Rattle.v_values.specs.Moments.{Shape, fit}
-<<<<<<< ours
 use Rattle.v_order.specs.Firsts.{keeps_first}
-=======
 use Rattle.v_order.specs.Apart.{AreApart, Owners}
->>>>>>> theirs
 use Rattle.v_order.specs.Settling.{Settles}
 use Rattle.v_order.specs.Steady.{AtOnce, IsSteady}
-use Rattle.v_machine.specs.Executed.{is_sited_stmt, write_count}
+use Rattle.v_machine.specs.Executed.{write_count}
 
 -- ---- how many bits the words of a module have
 
@@ -51,12 +48,6 @@ abbrev pub keeps_parameter : Entry → Bool
 keeps_parameter e = keeps_value e.kind e.width
 
 -- ---- what is evaluated
-
--- the sites of all values and statements have as many bits as are read there
-abbrev pub is_sited_core : Core → Bool
-is_sited_core c =
-    list_all (λ (a : TypedAssign). is_sited a.value c.names (design_in c).sites) c.assigns
-    && list_all (λ (p : TypedProcess). is_sited_stmt p.body c.names (design_in c).sites) c.processes
 
 -- an assign that has as many bits as its net
 abbrev pub is_measured : Shape → TypedAssign → Bool

@@ -1,5 +1,6 @@
 ghost use Rattle.std.specs.Prelude.{◌≡◌, ◌≤◌, ◌<◌, ◌^◌, ◌+◌, [], if◌then◌else◌, length, true};
 ghost use Rattle.std.specs.List.{list_all};
+ghost use Rattle.v_core.specs.SitedCores.{is_sited_stmt};
 ghost use Rattle.v_core.specs.declared.modules.TypedProcess.{TypedProcess};
 ghost use Rattle.v_core.specs.Cores.{acts_where};
 ghost use Rattle.v_core.specs.FormedCores.{is_formed_stmt};
@@ -7,7 +8,7 @@ ghost use Rattle.v_core.specs.Statements.{acts_in};
 ghost use Rattle.v_values.specs.Moments.{fit};
 ghost use Rattle.v_values.specs.Writes.{all_fit};
 ghost use Rattle.v_order.specs.Stepping.{all_finished, finished, next_of};
-ghost use Rattle.v_machine.specs.Executed.{is_sited_stmt, stepping, write_count};
+ghost use Rattle.v_machine.specs.Executed.{stepping, write_count};
 ghost use Rattle.v_machine.specs.Runnable.{process_counts};
 
 use crate::executing::execute;

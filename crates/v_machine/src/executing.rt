@@ -2,6 +2,7 @@ ghost use Rattle.std.specs.Prelude.{◌≡◌, ◌≤◌, ◌<◌, ◌^◌, ◌+
 ghost use Rattle.std.specs.List.{list_all};
 ghost use Rattle.v_meaning.specs.Acts.{sequence};
 ghost use Rattle.v_meaning.specs.Statements.{assign_acts};
+ghost use Rattle.v_core.specs.SitedCores.{is_sited_stmt};
 ghost use Rattle.v_core.specs.declared.statement.TypedStmt.{TypedStmt};
 ghost use Rattle.v_core.specs.Formed.{formed};
 ghost use Rattle.v_core.specs.FormedCores.{is_formed_stmt};
@@ -12,7 +13,7 @@ ghost use Rattle.v_values.specs.Kept.{is_kept_target};
 ghost use Rattle.v_values.specs.Moments.{fit};
 ghost use Rattle.v_values.specs.Queues as queues;
 ghost use Rattle.v_values.specs.Writes.{all_fit};
-ghost use Rattle.v_machine.specs.Executed.{all_acts_in, is_sited_stmt, stepping, write_count, write_counts};
+ghost use Rattle.v_machine.specs.Executed.{all_acts_in, stepping, write_count, write_counts};
 ghost use Rattle.v_order.specs.Counting.{steps_of};
 ghost use Rattle.v_order.specs.Stepping.{finished};
 

@@ -6,6 +6,7 @@ ghost use Rattle.v_meaning.specs.Declarations.{names_of};
 ghost use Rattle.v_meaning.specs.Modules.{design_of};
 ghost use Rattle.v_meaning.specs.ProcessRules.{combinational_of};
 ghost use Rattle.v_meaning.specs.Uses.{uses_of};
+ghost use Rattle.v_core.specs.SitedCores.{is_sited_core};
 ghost use Rattle.v_core.specs.declared.modules.Core.{Core};
 ghost use Rattle.v_core.specs.Cores.{design_in};
 ghost use Rattle.v_core.specs.Formed.{is_width};
@@ -15,13 +16,9 @@ ghost use Rattle.v_values.specs.Moments.{fit};
 ghost use Rattle.v_order.specs.Numbered.{AreNumbered};
 ghost use Rattle.v_order.specs.Settling.{Settles};
 ghost use Rattle.v_typed.specs.Forms.{are_measured};
-ghost use Rattle.v_machine.specs.Runnable.{CanRun, KeepsWords, is_sited_core, keeps_parameter, shape_of};
+ghost use Rattle.v_machine.specs.Runnable.{CanRun, KeepsWords, keeps_parameter, shape_of};
 
-<<<<<<< ours
-use v_order::{first_values_fit, names_are_numbered, processes_are_steady};
-=======
-use v_order::{names_are_numbered, processes_are_apart, processes_are_steady};
->>>>>>> theirs
+use v_order::{first_values_fit, names_are_numbered, processes_are_apart, processes_are_steady};
 
 /// Law: where the names of a module are numbered from 0, kind by kind, and parameters keep to their widths, each name has as
 /// many bits as the word of its number.

@@ -1,9 +1,9 @@
 use Rattle.std.proofs.Common.{◌≡◌, ap, sym, ◌∙◌, arith}
+use Rattle.v_core.specs.SitedCores.{is_sited_stmt}
 use Rattle.v_core.specs.declared.modules.TypedProcess.{TypedProcess}
 use Rattle.v_core.specs.FormedCores.{is_formed_stmt}
 use Rattle.v_values.specs.Moments.{Shape, fit}
 use Rattle.v_values.specs.Writes.{all_fit}
-use Rattle.v_machine.specs.Executed.{is_sited_stmt}
 use Rattle.v_machine.specs.Runnable.{process_counts}
 use Rattle.v_machine.proofs.Lists.{next_is, one_of}
 use Rattle.v_machine.proofs.Stepped.{left_less, steps_next}

@@ -3,6 +3,7 @@ use Rattle.std.proofs.Common.{◌≡◌, ap, sym, ◌∙◌, arith, ℕ, get_or,
 use Rattle.std.specs.Prelude.{Option}
 use Rattle.std.proofs.lemmas.Option.{slice_get-get_or}
 use Rattle.v_meaning.specs.Acts.{Acts, End}
+use Rattle.v_core.specs.SitedCores.{is_sited_stmt}
 use Rattle.v_core.specs.declared.statement.TypedArm.{TypedArm}
 use Rattle.v_core.specs.declared.statement.TypedStmt.{TypedStmt}
 use Rattle.v_core.specs.FormedCores.{is_formed_stmt}
@@ -11,7 +12,7 @@ use Rattle.v_core.proofs.statement.TypedStmt.TheLaws.{the_size}
 use Rattle.v_core.proofs.statement.TypedArm.TheLaws as arm
 use Rattle.v_values.specs.Moments.{Shape, fit}
 use Rattle.v_values.specs.Writes.{all_fit}
-use Rattle.v_machine.specs.Executed.{acts_at, acts_of_arm, all_acts_in, is_sited_stmt, stepping, write_counts}
+use Rattle.v_machine.specs.Executed.{acts_at, acts_of_arm, all_acts_in, stepping, write_counts}
 use Rattle.v_order.specs.Counting.{steps_of}
 use Rattle.v_order.specs.Stepping.{Stepping, finished}
 use Rattle.v_machine.proofs.Depths.{body_deeper, arms_deeper, arm_deeper}

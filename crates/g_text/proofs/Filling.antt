@@ -5,7 +5,7 @@ use Rattle.std.proofs.lemmas.List.{length-map, map-append}
 use Rattle.lz_base.specs.declared.name.Port.{Port}
 use Rattle.lz_base.specs.Names.{IsName, IsNew, AreDistinct}
 use Rattle.lz_lines.specs.Fields.{Each}
-use Rattle.lz_lines.proofs.Listed.{drop_next, item_or, take_next}
+use Rattle.lz_base.proofs.Lists.{drop_next, item_or, take_next}
 use Rattle.lz_lines.proofs.Referring.{distinct_new}
 use Rattle.g_net.specs.declared.network.Flip.{Flip}
 use Rattle.g_net.specs.declared.network.Gate.{Gate}

@@ -6,14 +6,8 @@ ghost use Rattle.g_text.specs.Raw.{begun};
 
 use crate::raw::{Raw, RawOutput};
 use g_net::{Flip, Gate, Network};
-use lz_base::{Name, Num, OutOfMemory, Port};
+use lz_base::{Num, OutOfMemory, Port};
 use std::alloc::Global;
-
-fn copy(alloc: Global, name: &Name) -> Result<Name, OutOfMemory>
-    ensures { IfOk result (λ n. n ≡ name.now) }
-{
-    Name::new(alloc, name.bytes())
-}
 
 fn fill_inputs(alloc: Global, network: &mut Network, ports: &[Port]) -> Result<(), OutOfMemory>
     requires no_flip { network.old.flips ≡ [] }
@@ -24,7 +18,7 @@ fn fill_inputs(alloc: Global, network: &mut Network, ports: &[Port]) -> Result<(
     ensures { OnOk result (network.new ≡ record network.old { inputs = network.old.inputs ++ ports.now }) }
 {
     for port in ports {
-        let name = copy(alloc, &port.name)?;
+        let name = port.name.copy(alloc)?;
         network.input(Port {
             name,
             width: port.width,
@@ -79,7 +73,7 @@ fn fill_outputs(
     ensures { OnOk result (network.new ≡ record network.old { outputs = network.old.outputs ++ outputs.now }) }
 {
     for output in outputs {
-        let name = copy(alloc, &output.name)?;
+        let name = output.name.copy(alloc)?;
         network.output(name, output.literals.as_slice())?;
     }
     Ok(())

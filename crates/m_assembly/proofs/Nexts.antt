@@ -1,13 +1,8 @@
 -- Lists from an index on.
 use Rattle.std.proofs.Common.{◌≡◌, ◌<◌, ◌-◌, ℕ, zero, suc, ◌+◌, List, [], ◌∷◌, ◌++◌, drop, map, slice_get, Option, None, Some, append_assoc, refl, ap, sym, ◌∙◌, add-one, arith}
 use Rattle.std.specs.Option.{option_map}
+use Rattle.lz_base.proofs.Lists.{drop_next}
 use Rattle.m_valid.specs.Assembly.{numbers}
-
--- an item that is there splits the list
-pub drop_next : {X : Type 0} (xs : List X) (i : ℕ) (x : X) → slice_get xs i ≡ Some x → drop i xs ≡ x ∷ drop (i + 1) xs
-drop_next [] i x is = cc
-drop_next (y ∷ ys) zero x is = let e : y ≡ x = cc in rw e refl
-drop_next (y ∷ ys) (suc i) x is = rw (add-one (suc i)) (drop_next ys i x is ∙ rw (add-one i) refl)
 
 sub_one : (count : ℕ) → suc count - 1 ≡ count
 sub_one count = omega arith

@@ -8,7 +8,7 @@ ghost use Rattle.m_valid.specs.Validity.{verdict};
 ghost use Rattle.m_assembly.specs.Cursor.{AreCuts};
 
 use crate::draft::Draft;
-use crate::ends::{clock_of, copy, flops_of, input_ports, output_nets, output_ports};
+use crate::ends::{clock_of, flops_of, input_ports, output_nets, output_ports};
 use crate::gates::push_gates;
 use g_net::{Line, Network, Proposal};
 use lz_base::{Items, Name, OutOfMemory, Port};
@@ -30,7 +30,7 @@ fn front_of(alloc: Global, network: &Network) -> Result<Front, OutOfMemory>
 {
     let inputs = input_ports(alloc, network.inputs())?;
     let clock = clock_of(alloc, network.clock())?;
-    let name = copy(alloc, network.name())?;
+    let name = network.name().copy(alloc)?;
     Ok(Front {
         name,
         clock,

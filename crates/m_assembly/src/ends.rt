@@ -9,19 +9,12 @@ use lz_base::{Items, Name, Num, OutOfMemory, Port};
 use n_cells::Flop;
 use std::alloc::Global;
 
-/// A name again.
-pub(crate) fn copy(alloc: Global, name: &Name) -> Result<Name, OutOfMemory>
-    ensures { IfOk result (λ n. n ≡ name.now) }
-{
-    Name::new(alloc, name.bytes())
-}
-
 /// The name of the clock again, where there is one.
 pub(crate) fn clock_of(alloc: Global, clock: Option<&Name>) -> Result<Option<Name>, OutOfMemory>
     ensures { IfOk result (λ n. n ≡ option_copied clock.entry) }
 {
     match clock {
-        Some(name) => Ok(Some(copy(alloc, name)?)),
+        Some(name) => Ok(Some(name.copy(alloc)?)),
         None => Ok(None),
     }
 }
@@ -32,7 +25,7 @@ pub(crate) fn input_ports(alloc: Global, inputs: &[Port]) -> Result<Items<Port>,
 {
     let mut ports = Items::new(alloc);
     for input in inputs {
-        let name = copy(alloc, &input.name)?;
+        let name = input.name.copy(alloc)?;
         ports.push(Port {
             name,
             width: input.width,
@@ -98,7 +91,7 @@ fn port_at(alloc: Global, network: &Network, index: usize) -> Result<Port, OutOf
     requires { index < length network.now.outputs }
     ensures { IfOk result (λ port. option_map port_of (slice_get network.now.outputs index) ≡ Some port) }
 {
-    let name = copy(alloc, network.output_name(index))?;
+    let name = network.output_name(index).copy(alloc)?;
     let width = network.output_literals(index).len() as u32;
     Ok(Port { name, width })
 }

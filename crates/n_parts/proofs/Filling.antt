@@ -4,7 +4,7 @@ use Rattle.std.specs.Option.{option_to_list}
 use Rattle.std.proofs.lemmas.List.{map-append}
 use Rattle.lz_base.specs.declared.name.Port.{Port}
 use Rattle.lz_base.specs.Names.{IsNew, AreDistinct}
-use Rattle.n_parts.proofs.Listed.{drop_next, take_next}
+use Rattle.lz_base.proofs.Lists.{drop_next, take_next}
 use Rattle.n_cells.specs.declared.netlist.Stored.{Stored}
 use Rattle.n_cells.specs.Netlist.{NetlistValue, names_of, net_count, cell_nets, nets_of, ReadBackwards, HaveShapes}
 

@@ -6,15 +6,9 @@ ghost use Rattle.n_cells.specs.Netlist.{names_of, HasShape, ReadsBelow, net_coun
 
 use crate::parts::Parts;
 use crate::piece::Piece;
-use lz_base::{Items, Name, Num, OutOfMemory, Port};
+use lz_base::{Items, Num, OutOfMemory, Port};
 use n_cells::{Cell, Flop, Netlist, NetlistMaker};
 use std::alloc::Global;
-
-fn copy(alloc: Global, name: &Name) -> Result<Name, OutOfMemory>
-    ensures { IfOk result (λ n. n ≡ name.now) }
-{
-    Name::new(alloc, name.bytes())
-}
 
 fn fill_inputs(alloc: Global, maker: &mut NetlistMaker, ports: &[Port]) -> Result<(), OutOfMemory>
     requires no_flop { maker.old.flops ≡ [] }
@@ -25,7 +19,7 @@ fn fill_inputs(alloc: Global, maker: &mut NetlistMaker, ports: &[Port]) -> Resul
     ensures { OnOk result (maker.new ≡ record maker.old { inputs = maker.old.inputs ++ ports.now }) }
 {
     for port in ports {
-        let name = copy(alloc, &port.name)?;
+        let name = port.name.copy(alloc)?;
         maker.input(Port {
             name,
             width: port.width,
@@ -83,7 +77,7 @@ fn fill_outputs(
     ensures { OnOk result (maker.new ≡ record maker.old { outputs = maker.old.outputs ++ ports.now; nets = maker.old.nets ++ nets.now }) }
 {
     for i in 0..ports.len() {
-        let name = copy(alloc, &ports[i].name)?;
+        let name = ports[i].name.copy(alloc)?;
         maker.output(name, nets[i].as_slice())?;
     }
     Ok(())

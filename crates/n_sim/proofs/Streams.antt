@@ -15,7 +15,7 @@ use Rattle.n_cells.specs.Netlist.{FillOutputs}
 use Rattle.lz_circuit.specs.Values.{value_at}
 use Rattle.n_sim.specs.Lanes.{lane, stream}
 use Rattle.n_sim.specs.Steps.{joined}
-use Rattle.n_sim.proofs.Walks.{drop_next}
+use Rattle.lz_base.proofs.Lists.{drop_next}
 use Rattle.n_sim.proofs.Edges.{moving, move_on}
 
 two_xor : (x y : ℕ) → x < 2 → y < 2 → ((x + y) % 2 == 1) ≡ xor (x == 1) (y == 1)

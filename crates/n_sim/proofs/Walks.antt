@@ -8,22 +8,6 @@ use Rattle.lz_circuit.specs.Values.{value_at}
 use Rattle.n_cells.specs.Run.{index_of, table_bit}
 use Rattle.n_cells.specs.Walk.{cell_values, all_values}
 
--- the list from an index on
-pub drop_next : {X : Type 0} (xs : List X) (i : ℕ) (x : X) → slice_get xs i ≡ Some x → drop i xs ≡ x ∷ drop (i + 1) xs
-drop_next [] i x is = cc
-drop_next (y ∷ ys) zero x is =
-    let e : y ≡ x = cc in
-    rw e refl
-drop_next (y ∷ ys) (suc i) x is = rw (add-one (suc i)) (drop_next ys i x is ∙ rw (add-one i) refl)
-
--- one element more
-pub take_next : {X : Type 0} (xs : List X) (i : ℕ) (x : X) → slice_get xs i ≡ Some x → take (i + 1) xs ≡ take i xs ++ x ∷ []
-take_next [] i x is = cc
-take_next (y ∷ ys) zero x is =
-    let e : y ≡ x = cc in
-    rw e refl
-take_next (y ∷ ys) (suc i) x is = rw (add-one (suc i)) (ap (λ l. y ∷ l) (rw (add-one i) at (take_next ys i x is)))
-
 -- the list from the item of a loop on, whatever it is seen as
 pub item_next : {X : Type 0} (xs : List X) (i : ℕ) (x seen : X) → x ≡ get_or xs i x → seen ≡ x → i < length xs → drop i xs ≡ seen ∷ drop (i + 1) xs
 item_next xs i x seen is e lt = drop-cons xs i x lt ∙ rw (← is, add-one i, e) refl

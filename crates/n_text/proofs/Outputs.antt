@@ -3,7 +3,7 @@ use Rattle.std.proofs.Common.{◌≡◌, ℕ, ◌+◌, ◌<◌, List, ◌++◌, 
 use Rattle.lz_base.specs.declared.name.Port.{Port}
 use Rattle.lz_lines.specs.References.{wrong_output}
 use Rattle.lz_lines.specs.Shared.{output_line}
-use Rattle.lz_lines.proofs.Listed.{drop_next, item_or, item_there}
+use Rattle.lz_base.proofs.Lists.{drop_next, item_or, item_there}
 use Rattle.n_cells.specs.Netlist.{FillOutputs}
 use Rattle.n_cells.specs.Text.{output_lines}
 use Rattle.n_text.specs.Referred.{wrong_outputs}

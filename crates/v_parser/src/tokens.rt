@@ -7,7 +7,7 @@ ghost use Rattle.v_parser.specs.Gives.{Gives, Grown, beside_of};
 
 use crate::miss::{Miss, Read};
 use crate::operators::{binary_operator, rank, unary_operator};
-use lz_base::{Items, Name};
+use lz_base::Items;
 use std::alloc::Global;
 use v_syntax::{
     Based, BinaryOperator, Cast, Decimal, Ident, Keyword, Lexeme, Mark, Token, UnaryOperator,
@@ -208,7 +208,7 @@ pub(crate) fn ident<'t>(
     };
     match &first.lexeme {
         Lexeme::Identifier(name) => {
-            let name = Name::new(alloc, name.bytes())?;
+            let name = name.copy(alloc)?;
             Ok((Ident { name, at: first.at }, rest))
         }
         _ => Err(Miss::At(tokens)),

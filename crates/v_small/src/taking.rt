@@ -2,7 +2,7 @@ ghost use Rattle.std.specs.Prelude.{◌≡◌, ◌∷◌, map, IfOk, IfSome};
 ghost use Rattle.v_syntax.specs.Small.{seen, word, mark, name};
 ghost use Rattle.v_small.specs.Reading.{Shows, mark_at, word_at, name_at};
 
-use lz_base::{Name, OutOfMemory};
+use lz_base::OutOfMemory;
 use std::alloc::Global;
 use v_syntax::{Ident, Keyword, Lexeme, Mark, Token};
 
@@ -43,7 +43,7 @@ pub(crate) fn take_name(
     };
     match &first.lexeme {
         Lexeme::Identifier(spelled) => {
-            let copy = Name::new(alloc, spelled.bytes())?;
+            let copy = spelled.copy(alloc)?;
             Ok(Some((
                 Ident {
                     name: copy,

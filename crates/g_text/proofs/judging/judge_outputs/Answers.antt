@@ -2,7 +2,8 @@ use Rattle.std.proofs.Common.{◌≡◌, ◌∙◌, ◌++◌, ◌+◌, ◌≤◌
 use Rattle.std.proofs.lemmas.List.{drop_all}
 use Rattle.std.proofs.lemmas.Result.{err_from_is_err_and}
 use Rattle.lz_base.specs.declared.rule.Rule.TheVariants.{G2}
-use Rattle.lz_lines.proofs.Listed.{drop_next, flat_length, item_there}
+use Rattle.lz_base.proofs.Lists.{drop_next, item_there}
+use Rattle.lz_lines.proofs.Listed.{flat_length}
 use Rattle.lz_lines.proofs.MetNames.{judges_more}
 use Rattle.g_net.specs.declared.network.Output.{Output}
 use Rattle.g_text.specs.Referred.{wrong_outputs}

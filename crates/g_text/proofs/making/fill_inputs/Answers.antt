@@ -1,7 +1,7 @@
 use Rattle.std.proofs.Common.{◌≡◌, ◌<◌, List, ℕ, Some, slice_get, length, refl, sym, subst, arith}
 use Rattle.lz_base.specs.declared.name.Port.{Port}
 use Rattle.lz_base.specs.Names.{IsNew}
-use Rattle.lz_lines.proofs.Listed.{item_there}
+use Rattle.lz_base.proofs.Lists.{item_there}
 use Rattle.g_net.specs.Network.{names_of}
 use Rattle.g_text.proofs.Filling.{next_new}
 use Rattle.g_text.proofs.making.fill_inputs.Goals as goal

@@ -1,6 +1,6 @@
 use Rattle.std.proofs.Common.{◌≡◌, ◌<◌, ◌∙◌, ap, List, ℕ, Some, slice_get, length, sym, subst, arith}
 use Rattle.lz_base.specs.Names.{IsNew}
-use Rattle.lz_lines.proofs.Listed.{item_there}
+use Rattle.lz_base.proofs.Lists.{item_there}
 use Rattle.g_net.specs.declared.network.Output.{Output}
 use Rattle.g_net.specs.Network.{names_of}
 use Rattle.g_text.proofs.Filling.{next_new}

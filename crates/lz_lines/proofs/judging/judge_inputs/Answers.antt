@@ -6,7 +6,8 @@ use Rattle.lz_base.specs.declared.name.Port.{Port}
 use Rattle.lz_lines.specs.Shared.{input_line}
 use Rattle.lz_base.specs.Met.{Met}
 use Rattle.lz_lines.specs.References.{wrong_inputs}
-use Rattle.lz_lines.proofs.Listed.{drop_next, flat_length}
+use Rattle.lz_base.proofs.Lists.{drop_next}
+use Rattle.lz_lines.proofs.Listed.{flat_length}
 use Rattle.lz_lines.proofs.MetNames.{judges_more, inputs_next, inputs_step}
 use Rattle.lz_lines.proofs.judging.judge_inputs.Goals as goal
 

@@ -1,6 +1,7 @@
 use Rattle.std.proofs.Common.{◌<◌, length, arith}
 use Rattle.std.proofs.lemmas.Grind.{common_steps}
-use Rattle.lz_lines.proofs.Listed.{each_next, item_there}
+use Rattle.lz_base.proofs.Lists.{item_there}
+use Rattle.lz_lines.proofs.Listed.{each_next}
 use Rattle.lz_lines.proofs.shared.push_inputs.Goals as goal
 
 pub loop-port-preserved : goal.loop-port-preserved

@@ -2,7 +2,7 @@ use Rattle.std.proofs.Common.{◌≡◌, ◌<◌, ◌∙◌, ap, List, ℕ, Some
 use Rattle.std.proofs.lemmas.Option.{slice_get_read}
 use Rattle.lz_base.specs.declared.name.Port.{Port}
 use Rattle.lz_base.specs.Names.{IsNew}
-use Rattle.n_parts.proofs.Listed.{get_or_is}
+use Rattle.lz_base.proofs.Lists.{get_or_is}
 use Rattle.n_cells.specs.Netlist.{names_of}
 use Rattle.n_parts.proofs.Filling.{next_new}
 use Rattle.n_parts.proofs.making.fill_outputs.Goals as goal

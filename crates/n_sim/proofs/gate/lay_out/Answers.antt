@@ -1,7 +1,7 @@
 use Rattle.std.proofs.Common.{◌++◌, ◌∷◌, [], ap, sym, ◌∙◌, take}
 use Rattle.n_cells.specs.Cell.{stored_of}
 use Rattle.n_sim.specs.Gates.{kind_cell}
-use Rattle.n_sim.proofs.Walks.{take_next}
+use Rattle.lz_base.proofs.Lists.{take_next}
 use Rattle.n_sim.proofs.gate.lay_out.Goals as goal
 
 pub loop-i-preserved : goal.loop-i-preserved

@@ -3,7 +3,7 @@ use Rattle.n_cells.specs.declared.netlist.Stored.TheVariants.{Lut, Carry}
 use Rattle.n_cells.specs.Run.{index_of, table_bit}
 use Rattle.n_sim.specs.Steps.{Holds, place_at}
 use Rattle.n_sim.proofs.Places.{at_below, cell_there, computes_carry, computes_lut}
-use Rattle.n_sim.proofs.Walks.{take_next}
+use Rattle.lz_base.proofs.Lists.{take_next}
 use Rattle.n_sim.proofs.layout.put_cell.Goals as goal
 
 pub put_lut-requires-clause-there : goal.put_lut-requires-clause-there

@@ -1,7 +1,7 @@
 use Rattle.std.proofs.Common.{ap, arith}
 use Rattle.n_cells.specs.Cell.{stored_of}
 use Rattle.n_cells.specs.Netlist.{cell_nets}
-use Rattle.n_sim.proofs.Walks.{drop_next}
+use Rattle.lz_base.proofs.Lists.{drop_next}
 use Rattle.n_sim.proofs.room.count_nets.Goals as goal
 
 pub loop-i-preserved : goal.loop-i-preserved

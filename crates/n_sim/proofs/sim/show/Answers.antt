@@ -4,7 +4,7 @@ use Rattle.std.proofs.lemmas.List.{take_more_set, map-append}
 use Rattle.lz_base.specs.Bits.{word_of}
 use Rattle.lz_base.specs.WordValue.{WordValue}
 use Rattle.lz_circuit.specs.Values.{value_at}
-use Rattle.n_sim.proofs.Walks.{take_next}
+use Rattle.lz_base.proofs.Lists.{take_next}
 use Rattle.n_sim.proofs.sim.show.Goals as goal
 
 pub loop-i-preserved : goal.loop-i-preserved

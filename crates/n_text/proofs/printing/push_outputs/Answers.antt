@@ -1,7 +1,8 @@
 use Rattle.std.proofs.Common.{◌≡◌, slice_get, get_or, Some, length, ◌∙◌, ap, sym, arith, ◌<◌}
 use Rattle.lz_base.specs.declared.name.Port.{Port}
 use Rattle.lz_base.specs.Names.{IsName}
-use Rattle.lz_lines.proofs.Listed.{each_next, goes_out, item_or}
+use Rattle.lz_base.proofs.Lists.{item_or}
+use Rattle.lz_lines.proofs.Listed.{each_next, goes_out}
 use Rattle.n_text.proofs.Forming.{outputs_next}
 use Rattle.n_text.proofs.Outputs.{output_lines_next}
 use Rattle.n_text.proofs.Spelling.{within_bound}

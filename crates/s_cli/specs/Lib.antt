@@ -3,6 +3,7 @@ pub mod Texts
 pub mod Status
 pub mod Synthesis
 pub mod Simulation
+pub mod SourceRun
 pub mod Upgrade
 pub mod Mapping
 pub mod Answers

@@ -33,7 +33,7 @@ command_of (a ∷ b ∷ []) =
     if is_word a (codes "synth") then Some command.Synth
     else (if is_word a (codes "map") then Some command.Map else (if is_word a (codes "upgrade") then Some command.Upgrade else None))
 command_of (a ∷ b ∷ c ∷ []) = if is_word a (codes "map") then Some command.MapFile else (if is_word a (codes "simn") then Some command.Simn else None)
-command_of (a ∷ b ∷ c ∷ d ∷ []) = if is_word a (codes "lanes") then lanes_by (string_bytes d) else None
+command_of (a ∷ b ∷ c ∷ d ∷ []) = if is_word a (codes "simv") then Some command.Simv else (if is_word a (codes "lanes") then lanes_by (string_bytes d) else None)
 command_of (a ∷ b ∷ c ∷ d ∷ e ∷ more) = None
 
 -- how many bytes each file of a form may have, in the order of the words
@@ -41,6 +41,7 @@ abbrev pub limits_of : Command → List ℕ
 limits_of command.Synth = source_limit ∷ []
 limits_of command.Map = text_limit ∷ []
 limits_of command.MapFile = text_limit ∷ text_limit ∷ []
+limits_of command.Simv = source_limit ∷ text_limit ∷ text_limit ∷ []
 limits_of command.Simn = text_limit ∷ text_limit ∷ []
 limits_of (command.Lanes count) = text_limit ∷ text_limit ∷ []
 limits_of command.Upgrade = text_limit ∷ []
@@ -58,6 +59,7 @@ abbrev pub IsForm : Command → Type 0
 IsForm command.Synth = ⊤
 IsForm command.Map = ⊤
 IsForm command.MapFile = ⊤
+IsForm command.Simv = ⊤
 IsForm command.Simn = ⊤
 IsForm (command.Lanes count) = (1 ≤ count) × (count ≤ 64)
 IsForm command.Upgrade = ⊤

@@ -6,6 +6,7 @@ ghost use Rattle.s_cli.specs.Words.{IsForm, limits_of};
 use crate::Command;
 use crate::mapping::{map, map_with};
 use crate::simulation::{trace, trace_lanes};
+use crate::source_run::source_trace;
 use crate::synthesis::translate;
 use crate::upgrading::upgrade;
 use lz_base::Stop;
@@ -58,6 +59,9 @@ pub(crate) fn answer(
         Command::Synth => Ok(unnoted(alloc, translate(alloc, &texts[0])?)),
         Command::Map => Ok(noted(map(alloc, &texts[0], mapper)?)),
         Command::MapFile => Ok(noted(map_with(alloc, &texts[0], &texts[1])?)),
+        Command::Simv => {
+            Ok(unnoted(alloc, source_trace(alloc, &texts[0], &texts[1], &texts[2])?))
+        }
         Command::Simn => Ok(unnoted(alloc, trace(alloc, &texts[0], &texts[1])?)),
         Command::Lanes { count } => {
             Ok(unnoted(alloc, trace_lanes(alloc, &texts[0], &texts[1], count)?))

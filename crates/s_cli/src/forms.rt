@@ -7,6 +7,8 @@ pub enum Command {
     Map,
     /// `map NETWORK PROPOSAL`
     MapFile,
+    /// `simv FILE STIM CHOICES`
+    Simv,
     /// `simn NETLIST STIM`
     Simn,
     /// `lanes NETLIST STIM COUNT`, where COUNT is one or two decimal digits, from 1 to 64.

@@ -40,6 +40,7 @@ pub fn command(words: &[String]) -> Option<Command>
         [verb, _] if verb.as_str() == "upgrade" => Some(Command::Upgrade),
         [verb, _, _] if verb.as_str() == "map" => Some(Command::MapFile),
         [verb, _, _] if verb.as_str() == "simn" => Some(Command::Simn),
+        [verb, _, _, _] if verb.as_str() == "simv" => Some(Command::Simv),
         [verb, _, _, count] if verb.as_str() == "lanes" => lanes_by(count.as_bytes()),
         _ => None,
     }
@@ -52,6 +53,7 @@ pub(crate) fn file_count(command: Command) -> usize
     match command {
         Command::Synth | Command::Map | Command::Upgrade => 1,
         Command::MapFile | Command::Simn | Command::Lanes { .. } => 2,
+        Command::Simv => 3,
     }
 }
 
@@ -63,6 +65,13 @@ pub(crate) fn limit(command: Command, index: usize) -> u64
 {
     match command {
         Command::Synth => SOURCE_LIMIT,
+        Command::Simv => {
+            if index == 0 {
+                SOURCE_LIMIT
+            } else {
+                TEXT_LIMIT
+            }
+        }
         Command::Map
         | Command::MapFile
         | Command::Simn

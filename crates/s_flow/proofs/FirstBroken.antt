@@ -32,6 +32,22 @@ unread_is m clocked kept is h =
 pub misused_is : (m : Module) → mistyped m ≡ None → IsClocked m → first_broken m ≡ misused m
 misused_is m kept none = ap (λ x. or_later x (or_later (unread (combinational_of (uses_of (names_of m) m))) (misused m))) kept ∙ ap (λ c. or_later (unread c) (misused m)) none
 
+or_later_none : (a b : Option Fault) → or_later a b ≡ None → (a ≡ None) × (b ≡ None)
+or_later_none None b h = (refl, h)
+or_later_none (Some fault) b h = absurd (cc h)
+
+unread_none : (ps : List ProcessUse) → unread ps ≡ None → ps ≡ []
+unread_none [] h = refl
+unread_none (p ∷ more) h = absurd (cc h)
+
+-- a module that breaks no rule breaks none of the first ones, none of the later ones, and has clocked processes alone
+pub kept_parts : (m : Module) → first_broken m ≡ None → (mistyped m ≡ None) × ((misused m ≡ None) × IsClocked m)
+kept_parts m kept =
+    let c : List ProcessUse = combinational_of (uses_of (names_of m) m) in
+    let outer = or_later_none (mistyped m) (or_later (unread c) (misused m)) kept in
+    let inner = or_later_none (unread c) (misused m) outer.2 in
+    (outer.1, (inner.2, unread_none c inner.1))
+
 -- ---- what is handed on
 
 fault_case : (S T : Type 0) (P Q : Fault → Type 0) (e : Stop) → IfFault {X = S} (Err e) P → ((f : Fault) → P f → Q f) → IfFault {X = T} (Err e) Q

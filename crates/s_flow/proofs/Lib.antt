@@ -1,4 +1,5 @@
 pub mod FirstBroken
+pub mod Running
 pub mod Names
 pub mod Tables
 pub mod Schedules

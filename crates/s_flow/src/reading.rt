@@ -1,6 +1,8 @@
 ghost use Rattle.std.specs.Prelude.{◌≡◌, ◌≤◌, length, None, Some, IfOk};
 ghost use Rattle.lz_base.specs.Limits.{source_limit};
 ghost use Rattle.lz_base.specs.Answers.{IfFault};
+ghost use Rattle.v_machine.specs.Runnable.{KeepsWords};
+ghost use Rattle.v_meaning.specs.Declarations.{names_of};
 ghost use Rattle.v_meaning.specs.Modules.{design_of};
 ghost use Rattle.v_core.specs.Cores.{design_in};
 ghost use Rattle.s_flow.specs.FirstBroken.{first_broken};
@@ -62,8 +64,10 @@ fn core_of(alloc: Global, tokens: &Tokens) -> Result<Core, Stop>
     judged(alloc, &module)
 }
 
-// The typed form of a module that breaks no rule.
-fn judged(alloc: Global, module: &Module) -> Result<Core, Stop>
+/// The typed form of a module that breaks no rule, or the first rule that it breaks. `OutOfMemory` is the only other answer.
+pub(crate) fn judged(alloc: Global, module: &Module) -> Result<Core, Stop>
+    ensures names { IfOk result (λ core. core.names ≡ names_of «module».now) }
+    ensures words { IfOk result KeepsWords }
     ensures accepted { IfOk result (λ core. (first_broken «module».now ≡ None) × (design_in core ≡ design_of «module».now)) }
     ensures refused { IfFault result (λ fault. first_broken «module».now ≡ Some fault) }
 {

@@ -39,12 +39,14 @@ pub fn runnable(alloc: Global, bytes: &[u8]) -> Result<Prepared, Stop>
 fn runnable_of(alloc: Global, tokens: &Tokens) -> Result<Prepared, Stop>
     ensures { IsReadyFrom tokens.now.tokens tokens.now.end result }
 {
+    // Called for its clause alone: the tokens stand one behind another.
+    tokens.tokens();
     let module = parse(alloc, tokens)?;
     ready(alloc, &module)
 }
 
 // The same of a module.
-#[tactic(auto, using(crate::proofs::Running::front_runs, crate::proofs::FirstBroken::kept_parts))]
+#[tactic(auto, using(crate::proofs::FirstBroken::kept_parts))]
 fn ready(alloc: Global, module: &Module) -> Result<Prepared, Stop>
     ensures design { IfOk result (λ r. (first_broken «module».now ≡ None) × (design_in r.core ≡ design_of «module».now)) }
     ensures runs { IfOk result (λ r. IfSpelled «module».now (CanRun r.core r.order.items)) }

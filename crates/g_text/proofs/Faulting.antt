@@ -11,8 +11,9 @@ use Rattle.lz_lines.specs.Fields.{field}
 use Rattle.lz_lines.specs.References.{IsWrong, Judges, wrong_inputs}
 use Rattle.lz_lines.specs.Shared.{clock_line, input_line}
 use Rattle.lz_lines.proofs.MetNames.{wrong_more}
+use Rattle.lz_lines.specs.Sections.{end_line}
 use Rattle.g_net.specs.Network.{NetworkValue, first_gate, node_count}
-use Rattle.g_text.specs.Raw.{body, end_line, model_line}
+use Rattle.g_text.specs.Raw.{body, model_line}
 use Rattle.g_text.specs.Referred.{wrong_flips, wrong_gates, wrong_outputs, wrong_places, inputs_at, flips_at, gates_at, outputs_at}
 use Rattle.g_text.specs.Text.{flip_line, gate_line, head, named_line, text}
 use Rattle.g_text.proofs.Wholes.{text_is}

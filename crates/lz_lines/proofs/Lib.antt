@@ -12,3 +12,4 @@ pub mod MetNames
 pub mod Standing
 pub mod Referring
 pub mod TableFields
+pub mod Sections

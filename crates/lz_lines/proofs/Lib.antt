@@ -13,3 +13,4 @@ pub mod Standing
 pub mod Referring
 pub mod TableFields
 pub mod Sections
+pub mod Faulting

@@ -11,11 +11,12 @@ use Rattle.lz_lines.specs.Fields.{field}
 use Rattle.lz_lines.specs.References.{IsWrong, Judges, wrong_inputs}
 use Rattle.lz_lines.specs.Shared.{clock_line, input_line}
 use Rattle.lz_lines.proofs.MetNames.{wrong_more}
+use Rattle.lz_lines.specs.Sections.{end_line}
 use Rattle.n_cells.specs.declared.format.Format.{Format}
 use Rattle.n_cells.specs.declared.format.Format.TheVariants as format_
 use Rattle.n_cells.specs.Netlist.{NetlistValue, first_net, net_count}
 use Rattle.n_cells.specs.Text.{flop_line, cell_line, output_lines, text}
-use Rattle.n_text.specs.Raw.{head, model_line, body, end_line}
+use Rattle.n_text.specs.Raw.{head, model_line, body}
 use Rattle.n_text.specs.Referred.{wrong_flops, wrong_cells, wrong_outputs, wrong_places, inputs_at, flops_at, cells_at, outputs_at}
 use Rattle.n_text.proofs.Wholes.{text_is}
 

@@ -1,5 +1,5 @@
 -- References judged section by section, up to the first that is wrong.
-use Rattle.std.proofs.Common.{◌≡◌, ℕ, ◌+◌, ◌≤◌, List, [], ◌∷◌, ◌++◌, length, Result, Ok, Err, IfErr, arith, ap, sym, ◌∙◌, append_assoc, append-nil}
+use Rattle.std.proofs.Common.{◌≡◌, ℕ, ◌+◌, ◌≤◌, List, [], ◌∷◌, ◌++◌, length, Result, Ok, Err, IfErr, refl, arith, ap, sym, ◌∙◌, append_assoc, append-nil}
 use Rattle.std.specs.Result.{IsErrAnd}
 use Rattle.std.proofs.lemmas.List.{length-append}
 use Rattle.std.proofs.lemmas.Result.{err_from_is_err_and}
@@ -35,9 +35,83 @@ module _ (rule : Rule) (wrong : ℕ → ℕ → List ℕ) (used count : ℕ) (ri
       let p = err_from_is_err_and result is in
       rw (p.1 ∙ ap Err p.2) (wrong_more rule e (wrong used place) back places j (whole ∙ ap (λ l. l ++ wrong count begins ++ back) h.clean ∙ ap (λ l. l ++ back) (sym same)))
 
--- where parts of a list stand in it
-pub first_in : (a b c d : List ℕ) → a ++ b ++ c ++ d ≡ a ++ (b ++ (c ++ d))
-first_in a b c d = append_assoc (a ++ b) c d ∙ append_assoc a b (c ++ d)
+-- What is judged: the rule, how many things there are to refer to, and the first of those that cells define; where the
+-- lines of inputs begin, and how long those of inputs, flip-flops and cells are; and the wrong places of each section.
+pub record Judged : Type 0 where
+  pub rule : Rule
+  pub count : ℕ
+  pub first : ℕ
+  pub place : ℕ
+  pub inputs_size : ℕ
+  pub flops_size : ℕ
+  pub cells_size : ℕ
+  pub inputs : ℕ → List ℕ
+  pub flops : ℕ → ℕ → List ℕ
+  pub cells : ℕ → ℕ → List ℕ
+  pub outputs : ℕ → ℕ → List ℕ
+
+module _ (j : Judged) where
+  abbrev flops_at : ℕ
+  flops_at = j.place + j.inputs_size
+
+  abbrev cells_at : ℕ
+  cells_at = flops_at + j.flops_size
+
+  abbrev outputs_at : ℕ
+  outputs_at = cells_at + j.cells_size
+
+  abbrev of_inputs : List ℕ
+  of_inputs = j.inputs j.place
+
+  abbrev of_flops : List ℕ
+  of_flops = j.flops j.count flops_at
+
+  abbrev of_cells : List ℕ
+  of_cells = j.cells j.first cells_at
+
+  abbrev of_outputs : List ℕ
+  of_outputs = j.outputs j.count outputs_at
+
+  abbrev places : List ℕ
+  places = of_inputs ++ of_flops ++ of_cells ++ of_outputs
+
+  -- a section in which nothing is wrong
+  pub at_flops : (at_ behind : ℕ) → Clean j.place [] at_ → Judges j.rule (Ok behind) (at_ + j.inputs_size) (j.inputs at_) → Clean flops_at of_inputs behind
+  at_flops at_ behind h = clean_next j.rule (λ _ k. j.inputs k) 0 0 refl j.place at_ [] h behind j.inputs_size
+
+  pub at_cells : (count at_ behind : ℕ) → count ≡ j.count → Clean flops_at of_inputs at_ → Judges j.rule (Ok behind) (at_ + j.flops_size) (j.flops count at_) → Clean cells_at (of_inputs ++ of_flops) behind
+  at_cells count at_ behind e h = clean_next j.rule j.flops count j.count e flops_at at_ of_inputs h behind j.flops_size
+
+  pub at_outputs : (first at_ behind : ℕ) → first ≡ j.first → Clean cells_at (of_inputs ++ of_flops) at_ → Judges j.rule (Ok behind) (at_ + j.cells_size) (j.cells first at_)
+      → Clean outputs_at (of_inputs ++ of_flops ++ of_cells) behind
+  at_outputs first at_ behind e h = clean_next j.rule j.cells first j.first e cells_at at_ (of_inputs ++ of_flops) h behind j.cells_size
+
+  pub none_there : (count at_ end_ behind : ℕ) → count ≡ j.count → Clean outputs_at (of_inputs ++ of_flops ++ of_cells) at_ → Judges j.rule (Ok behind) end_ (j.outputs count at_) → places ≡ []
+  none_there count at_ end_ behind e h = clean_more j.rule j.outputs count j.count e outputs_at at_ (of_inputs ++ of_flops ++ of_cells) h behind end_
+
+  -- a section in which something is
+  pub fault_inputs : {X : Type 0} (result : Result X Stop) (e : Stop) (at_ : ℕ) → IsErrAnd result (λ x. x ≡ e) → Clean j.place [] at_ → IsWrong j.rule (j.inputs at_) e → IfErr result (IsWrong j.rule places)
+  fault_inputs result e at_ is h =
+      fault_in j.rule (λ _ k. j.inputs k) 0 0 refl j.place at_ [] h (of_flops ++ (of_cells ++ of_outputs)) places result e is
+      (append_assoc (of_inputs ++ of_flops) of_cells of_outputs ∙ append_assoc of_inputs of_flops (of_cells ++ of_outputs))
+
+  pub fault_flops : {X : Type 0} (result : Result X Stop) (e : Stop) (count at_ : ℕ) → IsErrAnd result (λ x. x ≡ e) → count ≡ j.count → Clean flops_at of_inputs at_ → IsWrong j.rule (j.flops count at_) e
+      → IfErr result (IsWrong j.rule places)
+  fault_flops result e count at_ is b h =
+      fault_in j.rule j.flops count j.count b flops_at at_ of_inputs h (of_cells ++ of_outputs) places result e is (append_assoc (of_inputs ++ of_flops) of_cells of_outputs)
+
+  pub fault_cells : {X : Type 0} (result : Result X Stop) (e : Stop) (first at_ : ℕ) → IsErrAnd result (λ x. x ≡ e) → first ≡ j.first → Clean cells_at (of_inputs ++ of_flops) at_ → IsWrong j.rule (j.cells first at_) e
+      → IfErr result (IsWrong j.rule places)
+  fault_cells result e first at_ is b h = fault_in j.rule j.cells first j.first b cells_at at_ (of_inputs ++ of_flops) h of_outputs places result e is refl
+
+  pub fault_outputs : {X : Type 0} (result : Result X Stop) (e : Stop) (count at_ : ℕ) → IsErrAnd result (λ x. x ≡ e) → count ≡ j.count → Clean outputs_at (of_inputs ++ of_flops ++ of_cells) at_
+      → IsWrong j.rule (j.outputs count at_) e → IfErr result (IsWrong j.rule places)
+  fault_outputs result e count at_ is b h =
+      fault_in j.rule j.outputs count j.count b outputs_at at_ (of_inputs ++ of_flops ++ of_cells) h [] places result e is (sym (append-nil places))
+
+-- the lines behind the clock's
+pub begun_at : (model clock front behind : ℕ) → front ≡ model → behind ≡ front + clock → Clean (model + clock) [] behind
+begun_at model clock front behind e f = record { begun = f ∙ ap (λ k. k + clock) e; clean = refl }
 
 -- the lines of all sections have room in the text
 pub room_of : (text head name a b c d e : List ℕ) (most : ℕ) → text ≡ head ++ (field name ++ 10 ∷ ((a ++ b ++ c ++ d ++ e) ++ end_line)) → length text ≤ most

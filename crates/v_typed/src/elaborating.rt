@@ -69,8 +69,8 @@ pub fn typed(alloc: Global, names: &Names, module: &Module) -> Result<Core, OutO
 /// The typed form of a module, where it keeps the rules of declarations and expressions (E4 to E13); it does in each cycle
 /// what the module does (IEEE Std 1364-2005, 4, 5, 6, 9 and 12). Its names are the declared names in text order, and its
 /// sites, assigns and processes stand in text order too; it keeps to its widths and sites as that of `typed` does. Else the
-/// answer is the first of these rules that is broken, at its least place, which is a byte of the file. `OutOfMemory` is the only other answer; it also comes where there are
-/// 2^32 names or sites. The work is n log n in the module.
+/// answer is the first of these rules that is broken, at its least place, which is a byte of the file. `OutOfMemory` is the
+/// only other answer; it also comes where there are 2^32 names or sites. The work is n log n in the module.
 pub fn elaborate(alloc: Global, module: &Module) -> Result<Core, Stop>
     ensures refused { IfFault result (λ fault. first_fault (places_of «module».now) typing_rules ≡ Some fault) }
     ensures accepted { IfOk result (λ core. (first_fault (places_of «module».now) typing_rules ≡ None) × (design_in core ≡ design_of «module».now)) }

@@ -1,4 +1,4 @@
--- The texts of a stimulus and of choices, for a design.
+-- The texts of a stimulus, of choices and of schedules, for a design.
 use Rattle.std.specs.Prelude.{◌⊎◌, ℕ, List, length}
 use Rattle.lz_base.specs.WordValue.{WordValue}
 use Rattle.lz_base.specs.declared.fault.Fault.{Fault}
@@ -9,6 +9,10 @@ use Rattle.t_choices.specs.declared.choice_texts.Choices.{Choices}
 use Rattle.t_trace.specs.Texts.{IsStimulus, IsText, stimulus_text}
 use Rattle.v_machine.specs.Runnable.{port_widths}
 use Rattle.v_meaning.specs.Designs.{Design, cycle_bits, first_bits}
+
+-- how many processes the schedules of a design name
+abbrev pub process_count : Design → ℕ
+process_count d = length d.clocked
 
 -- The first text is a stimulus for the inputs of the design, and the second one has a bit for each that is open and a line
 -- for each cycle of the stimulus.

@@ -87,8 +87,7 @@ module _ (m : MachineValue) (c : Core) (before : Store) (order items inputs : Li
 
     pub complete_is : CompleteAreCounted → IsCounted counts schedule → (shown : List ℕ) × (after : Store) × CycleOf m inputs choice schedule shown after
     complete_is law h =
-        subst (λ (x : MachineValue). (shown : List ℕ) × (after : Store) × CycleOf x inputs choice schedule shown after) is
-        (
+        subst (λ (x : MachineValue). (shown : List ℕ) × (after : Store) × CycleOf x inputs choice schedule shown after) is (
           shown_by d order before inputs choice,
           next_by d order before inputs choice,
           (counts_complete law).1 (subst (λ (ns : List ℕ). IsCounted ns schedule) counts_by h),

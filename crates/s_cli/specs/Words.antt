@@ -1,5 +1,5 @@
 -- What the words of the command line ask for.
-use Rattle.std.specs.Prelude.{ℕ, List, [], ◌∷◌, ◌+◌, ◌-◌, ◌*◌, ◌≤◌, ⊤, length, map, take, drop, codes, Option, None, Some, String, string_bytes, Bool, ◌&&◌, ◌==◌, if◌then◌else◌}
+use Rattle.std.specs.Prelude.{ℕ, List, [], ◌∷◌, ◌+◌, ◌-◌, ◌*◌, ◌≤◌, ⊤, length, map, get_or, codes, Option, None, Some, String, string_bytes, Bool, ◌&&◌, ◌==◌, if◌then◌else◌}
 use lib.Pointwise.{pointwise}
 use Rattle.std.specs.declared.alloc.Global.{Global}
 use Rattle.lz_base.specs.Limits.{source_limit, text_limit}
@@ -25,7 +25,7 @@ lanes_by (d ∷ e ∷ f ∷ more) = None
 abbrev pub is_word : String Global → List ℕ → Bool
 is_word word bytes = pointwise ◌==◌ (string_bytes word) bytes
 
--- the form of words; the first one is compared byte by byte, and names of files are any words
+-- the form of words; the first one and `--schedule` are compared byte by byte, and names of files are any words
 abbrev pub command_of : List (String Global) → Option Command
 command_of [] = None
 command_of (a ∷ []) = None
@@ -34,7 +34,9 @@ command_of (a ∷ b ∷ []) =
     else (if is_word a (codes "map") then Some command.Map else (if is_word a (codes "upgrade") then Some command.Upgrade else None))
 command_of (a ∷ b ∷ c ∷ []) = if is_word a (codes "map") then Some command.MapFile else (if is_word a (codes "simn") then Some command.Simn else None)
 command_of (a ∷ b ∷ c ∷ d ∷ []) = if is_word a (codes "simv") then Some command.Simv else (if is_word a (codes "lanes") then lanes_by (string_bytes d) else None)
-command_of (a ∷ b ∷ c ∷ d ∷ e ∷ more) = None
+command_of (a ∷ b ∷ c ∷ d ∷ e ∷ []) = None
+command_of (a ∷ b ∷ c ∷ d ∷ e ∷ f ∷ []) = if is_word a (codes "simv") && is_word e (codes "--schedule") then Some command.SimvBy else None
+command_of (a ∷ b ∷ c ∷ d ∷ e ∷ f ∷ g ∷ more) = None
 
 -- how many bytes each file of a form may have, in the order of the words
 abbrev pub limits_of : Command → List ℕ
@@ -42,14 +44,26 @@ limits_of command.Synth = source_limit ∷ []
 limits_of command.Map = text_limit ∷ []
 limits_of command.MapFile = text_limit ∷ text_limit ∷ []
 limits_of command.Simv = source_limit ∷ text_limit ∷ text_limit ∷ []
+limits_of command.SimvBy = source_limit ∷ text_limit ∷ text_limit ∷ text_limit ∷ []
 limits_of command.Simn = text_limit ∷ text_limit ∷ []
 limits_of (command.Lanes count) = text_limit ∷ text_limit ∷ []
 limits_of command.Upgrade = text_limit ∷ []
 
+-- which of the words, from 0, name these files
+abbrev pub places_of : Command → List ℕ
+places_of command.Synth = 1 ∷ []
+places_of command.Map = 1 ∷ []
+places_of command.MapFile = 1 ∷ 2 ∷ []
+places_of command.Simv = 1 ∷ 2 ∷ 3 ∷ []
+places_of command.SimvBy = 1 ∷ 2 ∷ 3 ∷ 5 ∷ []
+places_of command.Simn = 1 ∷ 2 ∷ []
+places_of (command.Lanes count) = 1 ∷ 2 ∷ []
+places_of command.Upgrade = 1 ∷ []
+
 -- the names of the files
 abbrev pub names_for : Option Command → List (String Global) → List (List ℕ)
 names_for None words = []
-names_for (Some c) words = take (length (limits_of c)) (drop 1 (bytes_of words))
+names_for (Some c) words = map (λ place. get_or (bytes_of words) place []) (places_of c)
 
 abbrev pub names_in : List (String Global) → List (List ℕ)
 names_in words = names_for (command_of words) words
@@ -60,6 +74,7 @@ IsForm command.Synth = ⊤
 IsForm command.Map = ⊤
 IsForm command.MapFile = ⊤
 IsForm command.Simv = ⊤
+IsForm command.SimvBy = ⊤
 IsForm command.Simn = ⊤
 IsForm (command.Lanes count) = (1 ≤ count) × (count ≤ 64)
 IsForm command.Upgrade = ⊤

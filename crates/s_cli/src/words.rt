@@ -1,5 +1,5 @@
-ghost use Rattle.std.specs.Prelude.{◌≡◌, ◌<◌, ◌≤◌, ◌^◌, length, Some, slice_get, IfSome};
-ghost use Rattle.s_cli.specs.Words.{IsForm, command_of, lanes_by, limits_of};
+ghost use Rattle.std.specs.Prelude.{◌≡◌, ◌<◌, ◌≤◌, ◌^◌, length, Some, slice_get, string_bytes, IfSome};
+ghost use Rattle.s_cli.specs.Words.{IsForm, command_of, lanes_by, limits_of, names_in};
 
 use crate::Command;
 use lz_base::{SOURCE_LIMIT, TEXT_LIMIT};
@@ -28,8 +28,8 @@ fn lanes_by(count: &[u8]) -> Option<Command>
 
 /// The form of the words after the program's name. `None` comes exactly where they are of no form.
 ///
-/// The first word is compared byte by byte, and every other word but COUNT is a file name, whatever it is. It takes no
-/// memory.
+/// The first word and `--schedule` are compared byte by byte, and every other word but COUNT is a file name, whatever it is.
+/// It takes no memory.
 pub fn command(words: &[String]) -> Option<Command>
     ensures by { result ≡ command_of words.now }
     ensures form { IfSome result IsForm }
@@ -42,6 +42,8 @@ pub fn command(words: &[String]) -> Option<Command>
         [verb, _, _] if verb.as_str() == "simn" => Some(Command::Simn),
         [verb, _, _, _] if verb.as_str() == "simv" => Some(Command::Simv),
         [verb, _, _, count] if verb.as_str() == "lanes" => lanes_by(count.as_bytes()),
+        [verb, _, _, _, option, _] if verb.as_str() == "simv" && option.as_str() == "--schedule" =>
+            { Some(Command::SimvBy) }
         _ => None,
     }
 }
@@ -54,7 +56,18 @@ pub(crate) fn file_count(command: Command) -> usize
         Command::Synth | Command::Map | Command::Upgrade => 1,
         Command::MapFile | Command::Simn | Command::Lanes { .. } => 2,
         Command::Simv => 3,
+        Command::SimvBy => 4,
     }
+}
+
+/// The word that names the file at an index.
+pub(crate) fn file_name(words: &[String], command: Command, index: usize) -> &String
+    requires form { command_of words.now ≡ Some command }
+    requires index { index < length (limits_of command) }
+    ensures { slice_get (names_in words.now) index ≡ Some (string_bytes result.now) }
+{
+    let place = if index < 3 { index + 1 } else { 5 };
+    &words[place]
 }
 
 /// How many bytes the file at an index may have.
@@ -65,13 +78,7 @@ pub(crate) fn limit(command: Command, index: usize) -> u64
 {
     match command {
         Command::Synth => SOURCE_LIMIT,
-        Command::Simv => {
-            if index == 0 {
-                SOURCE_LIMIT
-            } else {
-                TEXT_LIMIT
-            }
-        }
+        Command::Simv | Command::SimvBy => { if index == 0 { SOURCE_LIMIT } else { TEXT_LIMIT } }
         Command::Map
         | Command::MapFile
         | Command::Simn

@@ -1,5 +1,5 @@
 -- How far a run has come, one cycle after another, and what it shows when all are run.
-use Rattle.std.proofs.Common.{◌≡◌, ◌<◌, ◌+◌, ◌++◌, ◌∙◌, ap, sym, subst, refl, arith, ℕ, List, [], ◌∷◌, length, get_or, map, take, drop, Bool, append-nil}
+use Rattle.std.proofs.Common.{◌≡◌, ◌<◌, ◌≤◌, ◌+◌, ◌++◌, ◌∙◌, ap, sym, subst, refl, arith, ℕ, List, [], ◌∷◌, length, get_or, map, take, drop, Bool, append-nil}
 use Rattle.std.proofs.lemmas.List.{drop_more, get_or-map, length-map, map-append, take-append-drop, take-map, take_all, take_more}
 use Rattle.lz_base.specs.WordValue.{WordValue}
 use Rattle.lz_base.specs.declared.fault.Fault.{Fault}
@@ -100,13 +100,31 @@ shown_once d first now last choices schedules ordered stimulus trace other r o =
     let same = sure_on d first now last r.turns o.turns [] r.leads (o.inputs ∙ sym r.inputs) (o.chosen ∙ sym r.chosen) (rw append-nil o.leads) in
     sym o.shown ∙ same.0 ∙ r.shown
 
+reaches_all : (d : Design) (first now : Store) (choices : List (List Bool)) (schedules : List (List ℕ)) (stimulus trace : List (List WordValue)) (i : ℕ) → length stimulus ≤ i →
+    length choices ≡ length stimulus → Reaches d first (take i choices) schedules (take i stimulus) trace now → Reaches d first choices schedules stimulus trace now
+reaches_all d first now choices schedules stimulus trace i past many r =
+    let cs : take i choices ≡ choices = take_all i choices (omega arith) in
+    let is : take i stimulus ≡ stimulus = take_all i stimulus past in
+    rw (← cs, ← is) r
+
 -- A run that has come to its end under allowed schedules is one, and every other one shows the same.
-pub runs_under : (Allowed : List ℕ → Type 0) (d : Design) (choices : Choices) (schedules : List (List ℕ)) (stimulus trace : List (List WordValue)) (now : Store) → Each Allowed schedules →
-    Reaches d (first_store d.firsts choices.first) choices.cycles schedules stimulus trace now → RunsUnder Allowed d choices stimulus trace
-runs_under Allowed d choices schedules stimulus trace now allowed r = record {
-  some = (schedules, allowed, (now, runs_of d (first_store d.firsts choices.first) now choices.cycles schedules stimulus trace r));
-  every = λ ordered other _ run. shown_once d (first_store d.firsts choices.first) now run.0 choices.cycles schedules ordered stimulus trace other r run.1;
-}
+pub runs_under : (Allowed : List ℕ → Type 0) (d : Design) (choices : Choices) (schedules : List (List ℕ)) (stimulus trace : List (List WordValue)) (now : Store) (i : ℕ) → length stimulus ≤ i →
+    length choices.cycles ≡ length stimulus → Each Allowed schedules →
+    Reaches d (first_store d.firsts choices.first) (take i choices.cycles) schedules (take i stimulus) trace now → RunsUnder Allowed d choices stimulus trace
+runs_under Allowed d choices schedules stimulus trace now i past many allowed before =
+    let r = reaches_all d (first_store d.firsts choices.first) now choices.cycles schedules stimulus trace i past many before in
+    record {
+      some = (schedules, allowed, (now, runs_of d (first_store d.firsts choices.first) now choices.cycles schedules stimulus trace r));
+      every = λ ordered other _ run. shown_once d (first_store d.firsts choices.first) now run.0 choices.cycles schedules ordered stimulus trace other r run.1;
+    }
+
+-- the same under given schedules
+pub runs_by : (d : Design) (choices : Choices) (schedules : List (List ℕ)) (stimulus trace : List (List WordValue)) (now : Store) (i : ℕ) → length stimulus ≤ i → length choices.cycles ≡ length stimulus →
+    length schedules ≡ length stimulus → Reaches d (first_store d.firsts choices.first) (take i choices.cycles) (take i schedules) (take i stimulus) trace now → RunsBy schedules d choices stimulus trace
+runs_by d choices schedules stimulus trace now i past many ordered before =
+    let ss : take i schedules ≡ schedules = take_all i schedules (omega arith) in
+    let r = reaches_all d (first_store d.firsts choices.first) now choices.cycles schedules stimulus trace i past many (rw ss at before) in
+    (now, runs_of d (first_store d.firsts choices.first) now choices.cycles schedules stimulus trace r)
 
 pub each_in_any_order : (schedules : List (List ℕ)) → Each InAnyOrder schedules
 each_in_any_order [] = tt

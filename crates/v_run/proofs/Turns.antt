@@ -1,15 +1,17 @@
 -- Runs, one cycle after another.
 use Rattle.std.proofs.Common.{◌≡◌, ◌<◌, ◌≤◌, ◌+◌, ◌^◌, ◌++◌, ap, sym, subst, ◌∙◌, refl, arith, ℕ, zero, suc, List, [], ◌∷◌, length, get_or, take, drop, Bool, append-nil}
-use Rattle.std.proofs.lemmas.List.{drop_more, length-map, take_all, take_more}
+use Rattle.std.proofs.lemmas.List.{get_or_read, length-map, take_all, take_more}
 use Rattle.std.proofs.lemmas.Grind.{common_steps}
 use Rattle.lz_base.specs.WordValue.{WordValue}
 use Rattle.lz_base.specs.declared.name.Port.{Port}
+use Rattle.lz_base.specs.declared.rule.Rule.TheVariants.{S1}
+use Rattle.t_choices.specs.Places.{place_of}
 use Rattle.t_trace.specs.Widths.{CyclesFit, FitWidths}
 use Rattle.v_machine.specs.Runnable.{port_widths}
-use Rattle.v_meaning.specs.Designs.{Design, IsCycle, port_words, word_values}
+use Rattle.v_meaning.specs.Designs.{Design, IsCycle, IsIncompleteAt, port_words, word_values}
 use Rattle.v_meaning.specs.Views.{Store}
 use Rattle.v_values.specs.Seen.{values_of, widths_of}
-use Rattle.v_run.specs.Turns.{IsCertain, Shows}
+use Rattle.v_run.specs.Turns.{HaltsIn, IsCertain, Shows}
 
 drop_past : {A : Type 0} (xs : List A) (i : ℕ) → length xs ≤ i → drop i xs ≡ []
 drop_past xs i h = grind (arith, common_steps)
@@ -46,6 +48,18 @@ shows_words schedule d before after inputs words out choice is widths cycle cert
   certain = subst (λ (ns : List ℕ). IsCertain d before ns choice (values_of out) after) (sym (word_values_are inputs)) certain;
 }
 
+-- a cycle whose schedule, which is that of its number, is not complete
+pub halts_in : (d : Design) (before : Store) (schedules : List (List ℕ)) (number : ℕ) (entries : List ℕ) (inputs : List WordValue) (choice : List Bool) (index place : ℕ) →
+    get_or schedules number [] ≡ entries → IsIncompleteAt d before (values_of inputs) choice entries index →
+    ((shown : List ℕ) (after : Store) → IsCycle d before (values_of inputs) choice entries shown after → ⊥) → place ≡ place_of schedules number index →
+    HaltsIn schedules d before inputs choice number (record { rule = S1; at = place })
+halts_in d before schedules number entries inputs choice index place is incomplete refused stands = record {
+  index = index;
+  incomplete = rw (word_values_are inputs, is) incomplete;
+  refused = λ shown after cycle. refused shown after (rw (word_values_are inputs, is) at cycle);
+  fault_is = ap (λ (p : ℕ). record { rule = S1; at = p }) stands;
+}
+
 -- what a vector holds whose words were all written over
 pub written_over : (out items : List WordValue) (n : ℕ) → widths_of out ≡ widths_of items → length items ≡ n → take n (out ++ drop (length out) items) ≡ out
 written_over out items n widths many =
@@ -61,10 +75,14 @@ line_of widths out items line n made kept many is fit =
     (is ∙ written, subst (λ (ns : List ℕ). FitWidths ns line) (ap widths_of written ∙ kept ∙ made) fit)
 
 -- the words of a cycle that is there fit
-pub cycle_there : (widths : List ℕ) (cycles : List (List WordValue)) (i : ℕ) (words : List WordValue) → CyclesFit widths cycles → i < length cycles → words ≡ get_or cycles i words → FitWidths widths words
+pub cycle_there : (widths : List ℕ) (cycles : List (List WordValue)) (i : ℕ) (words : List WordValue) → CyclesFit widths cycles → i < length cycles → words ≡ get_or cycles i [] → FitWidths widths words
 cycle_there widths [] i words fit within is = absurd (omega arith)
 cycle_there widths (c ∷ cycles) zero words fit within is = rw is fit.0
 cycle_there widths (c ∷ cycles) (suc i) words fit within is = cycle_there widths cycles i words fit.1 (omega arith) is
+
+-- what was read at an index of a slice stands there in the list
+pub read_there : {X : Type 0} (xs items : List X) (i : ℕ) (x d : X) → items ≡ xs → i < length xs → x ≡ get_or items i x → x ≡ get_or xs i d
+read_there xs items i x d same within is = get_or_read xs i x within (rw same at is) d
 
 -- one word more that keeps to its width
 pub keep_more : (words : List WordValue) (w : WordValue) → FitWidths (widths_of words) words → w.value < 2 ^ w.width → FitWidths (widths_of (words ++ w ∷ [])) (words ++ w ∷ [])

@@ -2,7 +2,12 @@
 use Rattle.std.proofs.Common.{◌≡◌, ◌<◌, ◌≤◌, ◌+◌, ◌^◌, ◌++◌, ap, sym, subst, ◌∙◌, refl, arith, ℕ, zero, suc, List, [], ◌∷◌, length, get_or, take, drop, Bool, append-nil}
 use Rattle.std.proofs.lemmas.List.{get_or_read, length-map, take_all, take_more}
 use Rattle.std.proofs.lemmas.Grind.{common_steps}
+use Rattle.std.specs.Prelude.{Result, Err, ⊤}
+use Rattle.lz_base.specs.Answers.{IfFault}
 use Rattle.lz_base.specs.WordValue.{WordValue}
+use Rattle.lz_base.specs.declared.fault.Fault.{Fault}
+use Rattle.lz_base.specs.declared.fault.Stop.{Stop}
+use Rattle.lz_base.specs.declared.fault.Stop.TheVariants as stop
 use Rattle.lz_base.specs.declared.name.Port.{Port}
 use Rattle.lz_base.specs.declared.rule.Rule.TheVariants.{S1}
 use Rattle.t_choices.specs.Places.{place_of}
@@ -109,3 +114,13 @@ cycles_more widths cycles pushed words push fit fits = subst (CyclesFit widths) 
     joined widths [] words fit fits = (fits, tt)
     joined widths (c ∷ cycles) words fit fits = (fit.0, joined widths cycles words fit.1 fits)
 
+
+-- ---- faults
+
+-- what holds of a fault holds of the one that is passed on
+pub fault_passed : {X : Type 0} (P Q : Fault → Type 0) (result : Result X Stop) (e : Stop) → result ≡ Err e → IfFault {X = ⊤} (Err e) P → ((fault : Fault) → P fault → Q fault) → IfFault result Q
+fault_passed {X} P Q result e is holds on = rw is (passed e holds)
+  where
+    passed : (e : Stop) → IfFault {X = ⊤} (Err e) P → IfFault {X = X} (Err e) Q
+    passed (stop.Fault fault) holds = on fault holds
+    passed stop.OutOfMemory holds = tt

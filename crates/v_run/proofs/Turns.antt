@@ -1,15 +1,22 @@
 -- Runs, one cycle after another.
 use Rattle.std.proofs.Common.{◌≡◌, ◌<◌, ◌≤◌, ◌+◌, ◌^◌, ◌++◌, ap, sym, subst, ◌∙◌, refl, arith, ℕ, zero, suc, List, [], ◌∷◌, length, get_or, take, drop, Bool, append-nil}
-use Rattle.std.proofs.lemmas.List.{drop_more, length-map, take_all, take_more}
+use Rattle.std.proofs.lemmas.List.{get_or_read, length-map, take_all, take_more}
 use Rattle.std.proofs.lemmas.Grind.{common_steps}
+use Rattle.std.specs.Prelude.{Result, Err, ⊤}
+use Rattle.lz_base.specs.Answers.{IfFault}
 use Rattle.lz_base.specs.WordValue.{WordValue}
+use Rattle.lz_base.specs.declared.fault.Fault.{Fault}
+use Rattle.lz_base.specs.declared.fault.Stop.{Stop}
+use Rattle.lz_base.specs.declared.fault.Stop.TheVariants as stop
 use Rattle.lz_base.specs.declared.name.Port.{Port}
+use Rattle.lz_base.specs.declared.rule.Rule.TheVariants.{S1}
+use Rattle.t_choices.specs.Places.{place_of}
 use Rattle.t_trace.specs.Widths.{CyclesFit, FitWidths}
 use Rattle.v_machine.specs.Runnable.{port_widths}
-use Rattle.v_meaning.specs.Designs.{Design, IsOutcome, port_words, word_values}
+use Rattle.v_meaning.specs.Designs.{Design, IsCycle, IsIncompleteAt, port_words, word_values}
 use Rattle.v_meaning.specs.Views.{Store}
 use Rattle.v_values.specs.Seen.{values_of, widths_of}
-use Rattle.v_run.specs.Runs.{RunsFrom, Shows}
+use Rattle.v_run.specs.Turns.{HaltsIn, IsCertain, Shows}
 
 drop_past : {A : Type 0} (xs : List A) (i : ℕ) → length xs ≤ i → drop i xs ≡ []
 drop_past xs i h = grind (arith, common_steps)
@@ -37,12 +44,25 @@ words_at_ports (p ∷ ports) (w ∷ words) is =
     (λ j. record { width = width j; value = w.value } ∷ words_at_ports ports words left j)
 
 -- a cycle that shows these words, which have the widths of the outputs
-pub shows_words : (Allowed : List ℕ → Type 0) (d : Design) (before after : Store) (inputs words out : List WordValue) (choice : List Bool) → words ≡ out → widths_of out ≡ port_widths d.outputs →
-    IsOutcome Allowed d before (values_of inputs) choice (values_of out) after → Shows Allowed d before inputs choice words after
-shows_words Allowed d before after inputs words out choice is widths outcome = record {
+pub shows_words : (schedule : List ℕ) (d : Design) (before after : Store) (inputs words out : List WordValue) (choice : List Bool) → words ≡ out → widths_of out ≡ port_widths d.outputs →
+    IsCycle d before (values_of inputs) choice schedule (values_of out) after → IsCertain d before (values_of inputs) choice (values_of out) after → Shows schedule d before inputs choice words after
+shows_words schedule d before after inputs words out choice is widths cycle certain = record {
   shown = values_of out;
   words_are = is ∙ words_at_ports d.outputs out widths;
-  outcome = subst (λ (ns : List ℕ). IsOutcome Allowed d before ns choice (values_of out) after) (sym (word_values_are inputs)) outcome;
+  cycle = subst (λ (ns : List ℕ). IsCycle d before ns choice schedule (values_of out) after) (sym (word_values_are inputs)) cycle;
+  certain = subst (λ (ns : List ℕ). IsCertain d before ns choice (values_of out) after) (sym (word_values_are inputs)) certain;
+}
+
+-- a cycle whose schedule, which is that of its number, is not complete
+pub halts_in : (d : Design) (before : Store) (schedules : List (List ℕ)) (number : ℕ) (entries : List ℕ) (inputs : List WordValue) (choice : List Bool) (index place : ℕ) →
+    get_or schedules number [] ≡ entries → IsIncompleteAt d before (values_of inputs) choice entries index →
+    ((shown : List ℕ) (after : Store) → IsCycle d before (values_of inputs) choice entries shown after → ⊥) → place ≡ place_of schedules number index →
+    HaltsIn schedules d before inputs choice number (record { rule = S1; at = place })
+halts_in d before schedules number entries inputs choice index place is incomplete refused stands = record {
+  index = index;
+  incomplete = rw (word_values_are inputs, is) incomplete;
+  refused = λ shown after cycle. refused shown after (rw (word_values_are inputs, is) at cycle);
+  fault_is = ap (λ (p : ℕ). record { rule = S1; at = p }) stands;
 }
 
 -- what a vector holds whose words were all written over
@@ -52,11 +72,22 @@ written_over out items n widths many =
     let past : drop (length out) items ≡ [] = drop_past items (length out) (omega (arith, same)) in
     rw past (ap (take n) (append-nil out) ∙ take_all n out (omega (arith, same, many)))
 
+-- the line of a trace that is made of such a vector, whose words have the widths of ports
+pub line_of : (widths : List ℕ) (out items line : List WordValue) (n : ℕ) → widths_of items ≡ widths → widths_of out ≡ widths_of items → length items ≡ n →
+    line ≡ take n (out ++ drop (length out) items) → FitWidths (widths_of (take n (out ++ drop (length out) items))) line → (line ≡ out) × FitWidths widths line
+line_of widths out items line n made kept many is fit =
+    let written = written_over out items n kept many in
+    (is ∙ written, subst (λ (ns : List ℕ). FitWidths ns line) (ap widths_of written ∙ kept ∙ made) fit)
+
 -- the words of a cycle that is there fit
-pub cycle_there : (widths : List ℕ) (cycles : List (List WordValue)) (i : ℕ) (words : List WordValue) → CyclesFit widths cycles → i < length cycles → words ≡ get_or cycles i words → FitWidths widths words
+pub cycle_there : (widths : List ℕ) (cycles : List (List WordValue)) (i : ℕ) (words : List WordValue) → CyclesFit widths cycles → i < length cycles → words ≡ get_or cycles i [] → FitWidths widths words
 cycle_there widths [] i words fit within is = absurd (omega arith)
 cycle_there widths (c ∷ cycles) zero words fit within is = rw is fit.0
 cycle_there widths (c ∷ cycles) (suc i) words fit within is = cycle_there widths cycles i words fit.1 (omega arith) is
+
+-- what was read at an index of a slice stands there in the list
+pub read_there : {X : Type 0} (xs items : List X) (i : ℕ) (x d : X) → items ≡ xs → i < length xs → x ≡ get_or items i x → x ≡ get_or xs i d
+read_there xs items i x d same within is = get_or_read xs i x within (rw same at is) d
 
 -- one word more that keeps to its width
 pub keep_more : (words : List WordValue) (w : WordValue) → FitWidths (widths_of words) words → w.value < 2 ^ w.width → FitWidths (widths_of (words ++ w ∷ [])) (words ++ w ∷ [])
@@ -83,30 +114,13 @@ cycles_more widths cycles pushed words push fit fits = subst (CyclesFit widths) 
     joined widths [] words fit fits = (fits, tt)
     joined widths (c ∷ cycles) words fit fits = (fit.0, joined widths cycles words fit.1 fits)
 
--- ---- runs
 
--- With what has been shown, and whatever the cycles that are left show from this store on, the whole run.
-abbrev pub Leads : (List ℕ → Type 0) → Design → Store → List (List WordValue) → List (List Bool) → List (List WordValue) → Store → List (List WordValue) → List (List Bool) → Type 0
-Leads Allowed d first stimulus choices so_far now inputs_left choices_left =
-    (rest : List (List WordValue)) → RunsFrom Allowed d now inputs_left choices_left rest → RunsFrom Allowed d first stimulus choices (so_far ++ rest)
+-- ---- faults
 
-pub leads_on : (Allowed : List ℕ → Type 0) (d : Design) (first : Store) (stimulus : List (List WordValue)) (choices : List (List Bool)) (so_far pushed : List (List WordValue)) (now : Store) (i : ℕ)
-    (left more : List (List Bool)) (input : List WordValue) (choice : List Bool) (words : List WordValue) (after : Store) → i < length stimulus → input ≡ get_or stimulus i input → left ≡ choice ∷ more →
-    pushed ≡ so_far ++ words ∷ [] → Shows Allowed d now input choice words after → Leads Allowed d first stimulus choices so_far now (drop i stimulus) left →
-    Leads Allowed d first stimulus choices pushed after (drop (i + 1) stimulus) more
-leads_on Allowed d first stimulus choices so_far pushed now i left more input choice words after within is split push shows before rest runs =
-    let next : drop i stimulus ≡ input ∷ drop (i + 1) stimulus = drop_more stimulus i input within ∙ ap (λ (x : List WordValue). x ∷ drop (i + 1) stimulus) (sym is) in
-    let from : RunsFrom Allowed d now (drop i stimulus) left (words ∷ rest) = rw next (rw split (after, shows, runs)) in
-    let joined : pushed ++ rest ≡ so_far ++ words ∷ rest = rw push (grind (arith, common_steps)) in
-    rw joined (before (words ∷ rest) from)
-
-none_left : (xs : List (List Bool)) → length xs ≤ 0 → xs ≡ []
-none_left [] h = refl
-none_left (x ∷ xs) h = absurd (omega arith)
-
--- a run is whole where no cycle is left
-pub run_ends : (Allowed : List ℕ → Type 0) (d : Design) (first : Store) (stimulus : List (List WordValue)) (choices : List (List Bool)) (so_far : List (List WordValue)) (now : Store) (i : ℕ) (left : List (List Bool)) →
-    length stimulus ≤ i → length left ≤ 0 → Leads Allowed d first stimulus choices so_far now (drop i stimulus) left → RunsFrom Allowed d first stimulus choices so_far
-run_ends Allowed d first stimulus choices so_far now i left past none run =
-    let ended : RunsFrom Allowed d now (drop i stimulus) left [] = rw (drop_past stimulus i past) (rw (none_left left none) tt) in
-    rw append-nil at (run [] ended)
+-- what holds of a fault holds of the one that is passed on
+pub fault_passed : {X : Type 0} (P Q : Fault → Type 0) (result : Result X Stop) (e : Stop) → result ≡ Err e → IfFault {X = ⊤} (Err e) P → ((fault : Fault) → P fault → Q fault) → IfFault result Q
+fault_passed {X} P Q result e is holds on = rw is (passed e holds)
+  where
+    passed : (e : Stop) → IfFault {X = ⊤} (Err e) P → IfFault {X = X} (Err e) Q
+    passed (stop.Fault fault) holds = on fault holds
+    passed stop.OutOfMemory holds = tt

@@ -13,9 +13,9 @@ mod running;
 mod showing;
 mod widths;
 
-pub use choosing::{cycle_bits, first_bits};
-pub use law::one_trace;
-pub use reading::{choices_for, inputs_for, stimulus_for};
-pub use running::trace;
+pub use choosing::{cycle_bits, first_bits, process_count};
+pub use law::{every_schedule_shows_it, one_trace};
+pub use reading::{choices_for, inputs_for, schedules_for, stimulus_for};
+pub use running::{trace, trace_by};
 pub use showing::shown_trace;
 pub use widths::input_widths;

@@ -1,4 +1,4 @@
-ghost use Rattle.std.specs.Prelude.{◌≡◌, ◌<◌, ℕ, List, [], get_or, length, true, IfOk};
+ghost use Rattle.std.specs.Prelude.{◌≡◌, ◌<◌, List, [], get_or, length, true, IfOk};
 ghost use Rattle.std.specs.List.{list_all};
 ghost use Rattle.lz_base.specs.Answers.{IfFault};
 ghost use Rattle.lz_base.specs.WordValue.{WordValue};
@@ -7,10 +7,10 @@ ghost use Rattle.t_choices.specs.Bits.{HasBits};
 ghost use Rattle.t_trace.specs.Widths.{CyclesFit, FitWidths};
 ghost use Rattle.v_core.specs.Cores.{design_in};
 ghost use Rattle.v_machine.specs.Runnable.{CanRun, is_word, port_widths};
-ghost use Rattle.v_meaning.specs.Designs.{InTextOrder, cycle_bits, first_bits};
+ghost use Rattle.v_meaning.specs.Designs.{cycle_bits, first_bits};
 ghost use Rattle.v_values.specs.Seen.{widths_of};
 ghost use Rattle.v_run.specs.Runs.{IsHalted, RunsBy, RunsInAnyOrder, RunsInTextOrder};
-ghost use Rattle.v_run.specs.Turns.{HaltsIn, Shows};
+ghost use Rattle.v_run.specs.Turns.{HaltsIn, Shows, ShowsInTextOrder};
 
 use crate::widths::{keep, zeros};
 use lz_base::{Fault, Items, OutOfMemory, Rule, Stop, Word};
@@ -44,7 +44,7 @@ fn cycle(
     requires choice { HasBits (cycle_bits (design_in core.now)) choice.now }
     ensures same { machine.new.core ≡ core.now }
     ensures fits { IfOk result (λ out. FitWidths (port_widths (design_in core.now).outputs) out) }
-    ensures shows { IfOk result (λ out. Shows InTextOrder (design_in core.now) machine.old.store input.now choice.now out machine.new.store) }
+    ensures shows { IfOk result (λ out. ShowsInTextOrder (design_in core.now) machine.old.store input.now choice.now out machine.new.store) }
 {
     let mut out = zeros(alloc, core.names.as_slice(), core.outputs.as_slice())?;
     machine.cycle(input, choice, out.as_mut_slice());
@@ -69,7 +69,7 @@ fn cycle_by(
     requires number { number < length schedules.now }
     ensures same { machine.new.core ≡ core.now }
     ensures fits { IfOk result (λ out. FitWidths (port_widths (design_in core.now).outputs) out) }
-    ensures shows { IfOk result (λ out. Shows (λ s. s ≡ get_or schedules.now number []) (design_in core.now) machine.old.store input.now choice.now out machine.new.store) }
+    ensures shows { IfOk result (λ out. Shows (get_or schedules.now number []) (design_in core.now) machine.old.store input.now choice.now out machine.new.store) }
     ensures halts { IfFault result (HaltsIn schedules.now (design_in core.now) machine.old.store input.now choice.now number) }
 {
     let mut out = zeros(alloc, core.names.as_slice(), core.outputs.as_slice())?;

@@ -1,9 +1,10 @@
-use Rattle.std.proofs.Common.{◌≡◌, ◌<◌, ◌≤◌, ◌++◌, ap, subst, arith, ℕ, List, [], ◌∷◌, length, Bool}
+use Rattle.std.proofs.Common.{◌≡◌, ◌<◌, ◌≤◌, ◌++◌, ◌∙◌, ap, subst, sym, arith, ℕ, List, [], ◌∷◌, length, Bool}
 use Rattle.lz_base.specs.WordValue.{WordValue}
 use Rattle.v_core.specs.Cores.{design_in}
 use Rattle.v_meaning.specs.Designs.{InAnyOrder, InTextOrder, first_store}
-use Rattle.v_run.specs.Turns.{ShowsInTextOrder}
-use Rattle.v_run.proofs.Reached.{each_in_any_order, each_more, reaches_next, runs_under}
+use Rattle.v_meaning.specs.Views.{Store}
+use Rattle.v_run.specs.Turns.{Reaches, ShowsInTextOrder}
+use Rattle.v_run.proofs.Reached.{each_in_any_order, each_more, reaches_next, reaches_none, runs_under}
 use Rattle.v_run.proofs.Turns.{cycle_there, cycles_more, read_there}
 use Rattle.v_run.proofs.running.trace.Goals as goal
 
@@ -12,6 +13,17 @@ cycle-requires-clause-input c =
     let within : c.loop-i.i < length c.args.stimulus.now.cycles = subst (λ (xs : List (List WordValue)). c.loop-i.i < length xs) c.as_slice-inputs.ensures c.loop-i-test.true in
     let given = read_there c.args.stimulus.now.cycles c.as_slice-inputs.result.now c.loop-i.i c.index-inputs-i.result [] c.as_slice-inputs.ensures within c.index-inputs-i.is in
     rw c.as_slice-in-loop-i.ensures (cycle_there _ c.args.stimulus.now.cycles c.loop-i.i c.index-inputs-i.result c.requires.stimulus within given)
+
+pub loop-i-init : goal.loop-i-init
+loop-i-init c =
+    let d = design_in c.args.core.now in
+    let first = first_store d.firsts c.args.choices.now.first in
+    let store : c.in_ok-machine.machine.store ≡ first = c.in_ok-machine.ensures.store ∙ ap (first_store d.firsts) c.as_slice.ensures in
+    record {
+      same = c.in_ok-machine.ensures.core;
+      fit = rw c.new-cycles.ensures tt;
+      reaches = ([], tt, subst (λ (s : Store). Reaches d first [] [] [] c.new-cycles.result s) (sym store) (rw c.new-cycles.ensures (reaches_none d first)));
+    }
 
 pub loop-i-preserved : goal.loop-i-preserved
 loop-i-preserved c =

@@ -1,4 +1,5 @@
 pub mod Judged
+pub mod Placed
 pub mod Reported
 pub mod Simulated
 pub mod Texts

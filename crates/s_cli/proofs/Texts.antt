@@ -2,8 +2,9 @@
 use Rattle.std.proofs.Common.{◌≡◌, ◌<◌, ◌+◌, ℕ, List, [], ◌∷◌, ◌++◌, length, take, Option, None, Some, Vec, refl, sym, ap, subst, arith, ◌∙◌, inl, inr}
 use Rattle.std.specs.Prelude.{String, slice_get}
 use Rattle.std.specs.declared.alloc.Global.{Global}
-use Rattle.std.proofs.lemmas.List.{take_more, length-append, length-take-le}
-use Rattle.std.proofs.lemmas.Option.{slice_get_within, get_or_from_slice_get}
+use Rattle.std.proofs.lemmas.List.{length-append, length-take-le}
+use Rattle.std.proofs.lemmas.Option.{slice_get_within}
+use Rattle.lz_base.proofs.Lists.{take_next}
 use Rattle.lz_base.specs.Outside.{Told}
 use Rattle.s_cli.specs.Texts.{AreShort, AreUnder, AreWhole, AnyMissing, IsMissing, IsShort, IsWhole, StandsSo, WereRead}
 use Rattle.s_cli.specs.declared.forms.Command.{Command}
@@ -66,17 +67,14 @@ pub record ReadTo (told : Told) (names : List (List ℕ)) (limits : List ℕ) (i
   pub count : length texts ≡ i
   pub short : AreShort (take i limits) texts
 
-next_at : {X : Type 0} (xs : List X) (i : ℕ) (x : X) → slice_get xs i ≡ Some x → take (i + 1) xs ≡ take i xs ++ x ∷ []
-next_at xs i x at = take_more xs i x (slice_get_within xs i x at) ∙ ap (λ (y : _). take i xs ++ y ∷ []) (get_or_from_slice_get xs i x x at)
-
 -- and the one there too
 pub read_next : (told : Told) (names : List (List ℕ)) (limits : List ℕ) (i : ℕ) (texts more : Texts) (name : List ℕ) (limit : ℕ) (text : Option (Vec ℕ Global))
     → ReadTo told names limits i texts → slice_get names i ≡ Some name → slice_get limits i ≡ Some limit → StandsSo told name (IsWhole limit text) → IsShort limit text
     → more ≡ texts ++ text ∷ [] → ReadTo told names limits (i + 1) more
 read_next told names limits i texts more name limit text before at_name at_limit stands short_one grown =
     let within : i < length limits = slice_get_within limits i limit at_limit in
-    let limits_on = next_at limits i limit at_limit in
-    let names_on = next_at names i name at_name in
+    let limits_on = take_next limits i limit at_limit in
+    let names_on = take_next names i name at_name in
     record {
       read = rw (grown, limits_on, names_on) (read_more told (take i names) (take i limits) texts name limit text before.read stands);
       there = rw names_on (there_more told (take i names) name (IsWhole limit text) stands before.there);

@@ -28,7 +28,7 @@ use Rattle.s_cli.specs.declared.status.Status.{Status}
 use Rattle.s_cli.specs.declared.status.Status.TheVariants as status
 use Rattle.s_cli.specs.Reading.{Chooses, Drives, DrivesBoth, IsDriven, IsReady, Prepares, ReadsSchedules, Readies, Simulates, StepsBy, never}
 use Rattle.s_cli.specs.SourceRun.{AreRunJudged, IsChosenBy, IsHaltedRun, IsRun, IsRunJudged, IsScheduledBy, IsUnchosen, IsUndriven, IsUnrun, IsUnscheduled, Stepped, by_schedules, taken_widths}
-use Rattle.s_cli.specs.Sources.{IsSource, IsSourceBroken, IsSourceJudged}
+use Rattle.s_cli.specs.Sources.{IsSource, IsSourceBroken}
 use Rattle.s_cli.specs.Texts.{IsWhole}
 use Rattle.s_cli.proofs.Judged.{OneReading, no_source, source_judged_broken, source_judged_good, source_judged_long}
 use Rattle.s_cli.proofs.Simulated.{no_stimulus_fault}
@@ -149,14 +149,14 @@ unready_behind one a b c m stop.OutOfMemory is drives = tt
 
 pub undriven_source : OneReading → (text : Option (Vec ℕ Global)) (r : Prepared) (e : Stop) → Prepares text (Ok r) → (a b c : List ℕ) → IsWhole source_limit text a
     → DrivesBoth (design_in r.core) b c (Err e) → Readies a b c (Err e)
-undriven_source one text r e prepares a b c is drives = let p = prepares a is in unready_behind one a b c p.0 e p.1 (rw p.2 at drives)
+undriven_source one text r e prepares a b c is drives = let p = prepares a is in unready_behind one a b c p.0 e p.1 (subst (λ (d : Design). DrivesBoth d b c (Err e)) p.2 drives)
 
 -- and neither is
 pub readied : OneReading → (text : Option (Vec ℕ Global)) (r : Prepared) (cycles : List (List WordValue)) (chosen : Choices) → Prepares text (Ok r) → (a b c : List ℕ) → IsWhole source_limit text a
     → IsDriven (design_in r.core) b c cycles chosen → IsReady a b c (design_in r.core) cycles chosen
 readied one text r cycles chosen prepares a b c is driven =
     let p = prepares a is in
-    record { module_ = p.0; read = p.1; design = p.2; one_module = λ other read. one_source one a p.0 other p.1 read; driven = driven }
+    record { module_ = p.0; read = p.1; design = p.2; kept = λ result. source_judged_good one a p.0 result p.1; one_module = λ other read. one_source one a p.0 other p.1 read; driven = driven }
 
 -- what is refused before any step
 pub unrun : (by : Stepped) (a b c : List ℕ) (e : Stop) → Readies a b c (Err e) → Simulates by a b c (Err e)
@@ -167,30 +167,29 @@ unrun by a b c (stop.Fault fault) (broken, judged) = (unrun_before broken, recor
 unrun by a b c stop.OutOfMemory readies = tt
 
 -- what calls for a status behind that
-judged_source : (by : Stepped) (a b c : List ℕ) (d : Design) (cycles : List (List WordValue)) (chosen : Choices) (result : Status) → IsSourceJudged a result → IsReady a b c d cycles chosen
-    → by.judged d chosen cycles result → AreRunJudged by a b c result
-judged_source by a b c d cycles chosen result source is judged = record {
-  broken = source;
+judged_source : (by : Stepped) (a b c : List ℕ) (d : Design) (cycles : List (List WordValue)) (chosen : Choices) (result : Status) → IsReady a b c d cycles chosen → by.judged d chosen cycles result → AreRunJudged by a b c result
+judged_source by a b c d cycles chosen result is judged = record {
+  broken = is.kept result;
   run = λ m read. subst (λ (n : Module). IsRunJudged by (design_of n) b c result) (is.one_module m read)
       (subst (λ (e : Design). IsRunJudged by e b c result) is.design (judged_behind by d b c cycles chosen result is.driven judged));
 }
 
 -- the steps, and their trace
-pub run_traced : OneReading → (by : Stepped) (a b c : List ℕ) (d : Design) (cycles shown : List (List WordValue)) (chosen : Choices) (v : Vec ℕ Global) → IsReady a b c d cycles chosen
+pub run_traced : (by : Stepped) (a b c : List ℕ) (d : Design) (cycles shown : List (List WordValue)) (chosen : Choices) (v : Vec ℕ Global) → IsReady a b c d cycles chosen
     → by.shows d chosen cycles shown → by.judged d chosen cycles status.Ok → v.items ≡ trace_text shown → Simulates by a b c (Ok v)
-run_traced one by a b c d cycles shown chosen v is shows judged printed =
+run_traced by a b c d cycles shown chosen v is shows judged printed =
     let run : IsRun by d b c v.items = record { cycles = cycles; chosen = chosen; shown = shown; driven = is.driven.driven; spelled = is.driven.spelled; run = shows; printed = printed } in (
       record { module_ = is.module_; read = is.read; run = subst (λ (e : Design). IsRun by e b c v.items) is.design run },
-      judged_source by a b c d cycles chosen status.Ok (source_judged_good one a is.module_ status.Ok is.read) is judged,
+      judged_source by a b c d cycles chosen status.Ok is judged,
     )
 
 -- steps that are refused
-pub run_halted : OneReading → (by : Stepped) (a b c : List ℕ) (d : Design) (cycles : List (List WordValue)) (chosen : Choices) (fault : Fault) → IsReady a b c d cycles chosen
+pub run_halted : (by : Stepped) (a b c : List ℕ) (d : Design) (cycles : List (List WordValue)) (chosen : Choices) (fault : Fault) → IsReady a b c d cycles chosen
     → by.halts d chosen cycles fault → by.judged d chosen cycles (status.Refused fault) → Simulates by a b c (Err (stop.Fault fault))
-run_halted one by a b c d cycles chosen fault is halts judged =
+run_halted by a b c d cycles chosen fault is halts judged =
     let halted : IsHaltedRun by d b c fault = record { cycles = cycles; chosen = chosen; driven = is.driven.driven; spelled = is.driven.spelled; halts = halts } in (
       inr (is.module_, is.read, inr (inr (subst (λ (e : Design). IsHaltedRun by e b c fault) is.design halted))),
-      judged_source by a b c d cycles chosen (status.Refused fault) (source_judged_good one a is.module_ (status.Refused fault) is.read) is judged,
+      judged_source by a b c d cycles chosen (status.Refused fault) is judged,
     )
 
 -- ---- steps under schedules
@@ -239,7 +238,7 @@ stepped d chosen cycles count text schedules (Err (stop.Fault fault)) many reads
 stepped d chosen cycles count text schedules (Err stop.OutOfMemory) many reads runs every halts refused bytes is = tt
 
 -- so a source is refused for its schedules
-pub run_stopped : OneReading → (a b c bytes : List ℕ) (d : Design) (cycles : List (List WordValue)) (chosen : Choices) (e : Stop) → IsReady a b c d cycles chosen → StepsBy bytes d chosen cycles (Err e)
+pub run_stopped : (a b c bytes : List ℕ) (d : Design) (cycles : List (List WordValue)) (chosen : Choices) (e : Stop) → IsReady a b c d cycles chosen → StepsBy bytes d chosen cycles (Err e)
     → Simulates (by_schedules bytes) a b c (Err e)
-run_stopped one a b c bytes d cycles chosen (stop.Fault fault) is steps = run_halted one (by_schedules bytes) a b c d cycles chosen fault is steps.0 steps.1
-run_stopped one a b c bytes d cycles chosen stop.OutOfMemory is steps = tt
+run_stopped a b c bytes d cycles chosen (stop.Fault fault) is steps = run_halted (by_schedules bytes) a b c d cycles chosen fault is steps.0 steps.1
+run_stopped a b c bytes d cycles chosen stop.OutOfMemory is steps = tt

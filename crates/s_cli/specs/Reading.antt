@@ -15,10 +15,11 @@ use Rattle.v_core.specs.Cores.{design_in}
 use Rattle.v_meaning.specs.Designs.{Design}
 use Rattle.v_meaning.specs.Modules.{design_of}
 use Rattle.s_flow.specs.declared.readying.Prepared.{Prepared}
+use Rattle.s_cli.specs.declared.status.Status.{Status}
 use Rattle.s_cli.specs.declared.status.Status.TheVariants as status
 use Rattle.s_cli.specs.Simulation.{IsNetlist, IsNetlistFault, IsStimulus, IsStimulusFault}
 use Rattle.s_cli.specs.SourceRun.{AreRunJudged, AreSchedulesJudged, HaltsBy, IsChosenBy, IsRunJudged, IsScheduledBy, IsSourceRun, IsUnchosen, IsUndriven, IsUnrun, IsUnscheduled, ShowsBy, Stepped, taken_widths}
-use Rattle.s_cli.specs.Sources.{IsSource, IsSourceBroken}
+use Rattle.s_cli.specs.Sources.{IsSource, IsSourceBroken, IsSourceJudged}
 use Rattle.s_cli.specs.declared.source_run.Driven.{Driven}
 use Rattle.s_cli.specs.declared.source_run.Inputs.{Inputs}
 use Rattle.s_cli.specs.Texts.{IsWhole}
@@ -74,11 +75,12 @@ DrivesBoth d stimulus choices (Ok r) = IsDriven d stimulus choices r.stimulus.cy
 DrivesBoth d stimulus choices (Err (stop.Fault fault)) = IsUndriven never d stimulus choices fault × IsRunJudged never d stimulus choices (status.Refused fault)
 DrivesBoth d stimulus choices (Err stop.OutOfMemory) = ⊤
 
--- The bytes are the text of one module, of this design, of one stimulus and of one choice for it.
+-- The bytes are the text of one module, of this design, which breaks no rule, and of one stimulus and one choice for it.
 pub record IsReady (source stimulus choices : List ℕ) (d : Design) (cycles : List (List WordValue)) (chosen : Choices) : Type 0 where
   pub module_ : Module
   pub read : IsSource source module_
   pub design : d ≡ design_of module_
+  pub kept : (result : Status) → IsSourceJudged source result
   pub one_module : (other : Module) → IsSource source other → module_ ≡ other
   pub driven : IsDriven d stimulus choices cycles chosen
 

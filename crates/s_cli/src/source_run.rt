@@ -149,7 +149,10 @@ fn inputs_of(
 {
     one_reading();
     one_module();
-    let Prepared { core, order } = source_of(alloc, source)?;
+    let Prepared { core, order } = match source_of(alloc, source) {
+        Ok(prepared) => prepared,
+        Err(stop) => return Err(stop),
+    };
     let Driven { stimulus, choices } = match driven_by(alloc, &core, stimulus, choices) {
         Ok(driven) => driven,
         Err(stop) => return Err(stop),
@@ -227,8 +230,9 @@ pub(crate) fn scheduled_trace(
         Ok(inputs) => inputs,
         Err(stop) => return Err(stop),
     };
-    match trace_under(alloc, inputs, schedules) {
-        Ok(trace) => Ok(print_trace(alloc, &trace)?),
-        Err(stop) => Err(stop),
-    }
+    let trace = match trace_under(alloc, inputs, schedules) {
+        Ok(trace) => trace,
+        Err(stop) => return Err(stop),
+    };
+    Ok(print_trace(alloc, &trace)?)
 }

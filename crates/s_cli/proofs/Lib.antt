@@ -2,4 +2,5 @@ pub mod Judged
 pub mod Reported
 pub mod Simulated
 pub mod Texts
+pub mod Traced
 pub mod Upgraded

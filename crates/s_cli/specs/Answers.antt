@@ -16,6 +16,7 @@ use Rattle.s_cli.specs.Synthesis.{IsTranslation, IsSourceFault, IsJudged}
 use Rattle.s_cli.specs.Texts.{AreUnder}
 use Rattle.s_cli.specs.Upgrade.{IsUpgrade, IsOldJudged}
 use Rattle.n_cells.specs.declared.format.Format.TheVariants.{One}
+use Rattle.v_run.specs.Runs.{RunsInTextOrder}
 
 -- what holds of the bytes under some names, where bytes are told
 abbrev pub IfTold : Told → List (List ℕ) → (List (List ℕ) → Type 0) → Type 0
@@ -49,7 +50,7 @@ abbrev pub IsOutputBy : Command → Answering → List (List ℕ) → List ℕ �
 IsOutputBy command.Synth may_answer files output note = Unnoted note (OfOne files (λ source. IsTranslation source output))
 IsOutputBy command.Map may_answer files output note = OfOne files (λ network. IsMappedBy may_answer network output note)
 IsOutputBy command.MapFile may_answer files output note = OfTwo files (λ network proposal. IsMappedWith network proposal output note)
-IsOutputBy command.Simv may_answer files output note = Unnoted note (OfThree files (λ source stimulus choices. IsSourceRun source stimulus choices output))
+IsOutputBy command.Simv may_answer files output note = Unnoted note (OfThree files (λ source stimulus choices. IsSourceRun RunsInTextOrder source stimulus choices output))
 IsOutputBy command.Simn may_answer files output note = Unnoted note (OfTwo files (λ netlist stimulus. IsSimulation ShowsRun netlist stimulus output))
 IsOutputBy (command.Lanes count) may_answer files output note = Unnoted note (OfTwo files (λ netlist stimulus. IsSimulation (ShowsStreams count) netlist stimulus output))
 IsOutputBy command.Upgrade may_answer files output note = Unnoted note (OfOne files (λ old. IsUpgrade old output))

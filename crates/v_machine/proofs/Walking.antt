@@ -1,7 +1,7 @@
 -- How the entries of a schedule take numbers of steps down.
 use Rattle.std.proofs.Common.{◌≡◌, ◌-◌, ◌<◌, ◌≤◌, ◌+◌, refl, sym, ap, ◌∙◌, subst, arith, ℕ, zero, suc, length, get_or, drop, take, add-one, List, [], ◌∷◌, true, false}
 use Rattle.std.proofs.lemmas.Bool.{eqb-true}
-use Rattle.std.specs.Prelude.{◌==◌, Option, Some, slice_get, slice_index, slice_set}
+use Rattle.std.specs.Prelude.{◌==◌, Some, slice_get, slice_index, slice_set}
 use Rattle.v_order.specs.Counting.{AreZero, HasNoStep, TakesDown, IsShort, IsShortAt, IsCounted}
 use Rattle.v_machine.specs.Walked.{are_none}
 use Rattle.v_machine.proofs.Lists.{first_of, next_at}

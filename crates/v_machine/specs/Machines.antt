@@ -20,4 +20,4 @@ pub record IsReady (c : Core) (order : List ℕ) (now spare : MomentValue) (queu
   pub empty : queue.writes ≡ []
   pub counted : process_counts c.processes < 2 ^ 64
   pub room : process_counts c.processes ≤ queue.room
-  pub places : length c.processes ≤ places
+  pub counts : length c.processes ≤ places

@@ -12,8 +12,8 @@ use Rattle.v_run.specs.Turns.{HaltsIn, IsCertain, LeadsSurely, Reaches, Shows}
 
 -- ---- one cycle more
 
-pub reaches_none : (d : Design) (first : Store) → Reaches d first [] [] [] [] first
-reaches_none d first = record { turns = []; inputs = refl; chosen = refl; ordered = refl; shown = refl; leads = refl }
+pub reaches_none : (d : Design) (first now : Store) (trace : List (List WordValue)) → trace ≡ [] → now ≡ first → Reaches d first [] [] [] trace now
+reaches_none d first now trace none is = record { turns = []; inputs = refl; chosen = refl; ordered = refl; shown = sym none; leads = sym is }
 
 leads_more : (d : Design) (before now after : Store) (turns : List Turn) (t : Turn) → LeadsSurely d before turns now → IsCycle d now t.inputs t.choice t.schedule t.shown after →
     IsCertain d now t.inputs t.choice t.shown after → LeadsSurely d before (turns ++ t ∷ []) after

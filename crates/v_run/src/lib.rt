@@ -1,11 +1,12 @@
 //! The run of a typed module over a stimulus, where the bits that its source leaves open are chosen, and the steps of its
 //! processes ordered.
 //!
-//! It stands on the simulator of `v_machine`, on the stimulus and the trace of `t_trace` and on the choices and schedules of `t_choices`.
-//! Promised are: `trace` gives the words that the module shows in text order under the choices, line by line, and every complete
-//! schedule shows the same; `trace_by` gives those that it shows under schedules, or says where the first one is not complete;
-//! `inputs_for` and `schedules_for` read a stimulus, choices and schedules for a module, or say which of the texts is none and
-//! where; `shown_trace` prints the trace over two texts. Apart from the line of the trace a cycle takes no memory.
+//! It stands on the simulator of `v_machine`, on the stimulus and the trace of `t_trace` and on the choices and schedules of
+//! `t_choices`. Promised are: `trace` gives the words that the module shows in text order under the choices, line by line, and
+//! every complete schedule shows the same; `trace_by` gives those that it shows under schedules, or says where the first one is
+//! not complete; `inputs_for` and `schedules_for` read a stimulus, choices and schedules for a module, or say which of the
+//! texts is none and where; `shown_trace` prints the trace over two texts. Apart from the line of the trace a cycle takes no
+//! memory.
 #![tactic(auto)]
 
 mod choosing;

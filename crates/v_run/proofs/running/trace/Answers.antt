@@ -1,9 +1,21 @@
-use Rattle.std.proofs.Common.{◌<◌, ◌≤◌, ◌++◌, arith, [], ◌∷◌, length}
+use Rattle.std.proofs.Common.{◌<◌, ◌≤◌, ◌++◌, ◌∙◌, ap, arith, [], ◌∷◌, length}
 use Rattle.v_core.specs.Cores.{design_in}
 use Rattle.v_meaning.specs.Designs.{InAnyOrder, InTextOrder, first_store}
-use Rattle.v_run.proofs.Reached.{each_in_any_order, each_more, reaches_next, runs_under}
+use Rattle.v_run.proofs.Reached.{each_in_any_order, each_more, reaches_next, reaches_none, runs_under}
 use Rattle.v_run.proofs.Words.{cycles_more}
 use Rattle.v_run.proofs.running.trace.Goals as goal
+
+pub loop-i-init : goal.loop-i-init
+loop-i-init c = record {
+  same = c.in_ok-machine.ensures.core;
+  fit = rw c.new-cycles.ensures tt;
+  reaches = (
+    [],
+    tt,
+    reaches_none (design_in c.args.core.now) (first_store (design_in c.args.core.now).firsts c.args.choices.now.first) c.in_ok-machine.machine.store c.new-cycles.result
+        c.new-cycles.ensures (c.in_ok-machine.ensures.store ∙ ap (first_store (design_in c.args.core.now).firsts) c.as_slice.ensures),
+  );
+}
 
 pub loop-i-preserved : goal.loop-i-preserved
 loop-i-preserved c =

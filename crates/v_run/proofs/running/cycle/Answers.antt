@@ -11,10 +11,6 @@ pub cycle-requires-clause-inputs : goal.cycle-requires-clause-inputs
 cycle-requires-clause-inputs c =
     rw c.requires.same (widths_there _ c.args.stimulus.now.cycles c.args.number c.words_of-input.result.now c.requires.stimulus c.requires.number c.words_of-input.ensures)
 
-pub cycle-requires-clause-outputs : goal.cycle-requires-clause-outputs
-cycle-requires-clause-outputs c =
-    rw c.requires.same (ap widths_of c.as_mut_slice.ensures.value ∙ c.in_ok-out.ensures)
-
 pub returns : goal.returns
 returns c =
     let kept : widths_of c.cycle.new.out ≡ widths_of c.in_ok-out.out.items = c.cycle.ensures.widths ∙ ap widths_of c.as_mut_slice.ensures.value in

@@ -12,10 +12,6 @@ pub cycle_by-requires-clause-inputs : goal.cycle_by-requires-clause-inputs
 cycle_by-requires-clause-inputs c =
     rw c.requires.same (widths_there _ c.args.stimulus.now.cycles c.args.number c.words_of-input.result.now c.requires.stimulus c.requires.number c.words_of-input.ensures)
 
-pub cycle_by-requires-clause-outputs : goal.cycle_by-requires-clause-outputs
-cycle_by-requires-clause-outputs c =
-    rw c.requires.same (ap widths_of c.as_mut_slice.ensures.value ∙ c.in_ok-out.ensures)
-
 pub place-requires-clause-index : goal.place-requires-clause-index
 place-requires-clause-index c =
     rw (get_or_from_slice_get c.args.schedules.now c.args.number c.entries-entries.result.now [] c.entries-entries.ensures) c.in-Err.ensures.incomplete.within

@@ -1,4 +1,4 @@
 pub mod Bits
 pub mod Ports
 pub mod Reached
-pub mod Turns
+pub mod Words

@@ -5,15 +5,15 @@ use Rattle.lz_base.specs.WordValue.{WordValue}
 use Rattle.lz_base.specs.declared.fault.Fault.{Fault}
 use Rattle.lz_lines.specs.Fields.{Each}
 use Rattle.t_choices.specs.declared.choice_texts.Choices.{Choices}
-use Rattle.v_meaning.specs.Designs.{Design, InAnyOrder, IsCycle, IsIncompleteAt, Turn, first_store, port_words, word_values}
+use Rattle.v_meaning.specs.Designs.{Design, InAnyOrder, IsCycle, Turn, first_store, port_words, word_values}
 use Rattle.v_meaning.specs.Views.{Store}
 use Rattle.v_run.specs.Runs.{IsHalted, Leads, RunsBy, RunsTo, RunsUnder}
 use Rattle.v_run.specs.Turns.{HaltsIn, IsCertain, LeadsSurely, Reaches, Shows}
 
 -- ---- one cycle more
 
-pub reaches_none : (d : Design) (first : Store) → Reaches d first [] [] [] [] first
-reaches_none d first = record { turns = []; inputs = refl; chosen = refl; ordered = refl; shown = refl; leads = refl }
+pub reaches_none : (d : Design) (first now : Store) (trace : List (List WordValue)) → trace ≡ [] → now ≡ first → Reaches d first [] [] [] trace now
+reaches_none d first now trace none is = record { turns = []; inputs = refl; chosen = refl; ordered = refl; shown = sym none; leads = sym is }
 
 leads_more : (d : Design) (before now after : Store) (turns : List Turn) (t : Turn) → LeadsSurely d before turns now → IsCycle d now t.inputs t.choice t.schedule t.shown after →
     IsCertain d now t.inputs t.choice t.shown after → LeadsSurely d before (turns ++ t ∷ []) after
@@ -35,28 +35,23 @@ reaches_more d first now after choices schedules stimulus trace choice schedule 
       leads = leads_more d first now after r.turns t r.leads s.cycle s.certain;
     }
 
--- the front of a list with one item more, which stands at that index
-front_more : {X : Type 0} (xs : List X) (i : ℕ) (d x : X) → i < length xs → x ≡ get_or xs i d → take (i + 1) xs ≡ take i xs ++ x ∷ []
-front_more xs i d x within is = take_more xs i d within ∙ ap (λ y. take i xs ++ y ∷ []) (sym is)
-
 -- the cycle of an index, under some schedule
-pub reaches_next : (d : Design) (first now after : Store) (choices : List (List Bool)) (schedules : List (List ℕ)) (stimulus trace pushed : List (List WordValue)) (i : ℕ) (choice : List Bool)
-    (schedule : List ℕ) (input words : List WordValue) → i < length stimulus → length choices ≡ length stimulus → choice ≡ get_or choices i [] → input ≡ get_or stimulus i [] →
-    pushed ≡ trace ++ words ∷ [] → Reaches d first (take i choices) schedules (take i stimulus) trace now → Shows schedule d now input choice words after →
-    Reaches d first (take (i + 1) choices) (schedules ++ schedule ∷ []) (take (i + 1) stimulus) pushed after
-reaches_next d first now after choices schedules stimulus trace pushed i choice schedule input words within many chosen given push r s =
-    let cs : take (i + 1) choices ≡ take i choices ++ choice ∷ [] = front_more choices i [] choice (omega arith) chosen in
-    let is : take (i + 1) stimulus ≡ take i stimulus ++ input ∷ [] = front_more stimulus i [] input within given in
-    rw (cs, is, push) (reaches_more d first now after (take i choices) schedules (take i stimulus) trace choice schedule input words r s)
+pub reaches_next : (d : Design) (first now after : Store) (choices : List (List Bool)) (schedules : List (List ℕ)) (stimulus trace pushed : List (List WordValue)) (i : ℕ) (schedule : List ℕ)
+    (words : List WordValue) → i < length stimulus → length choices ≡ length stimulus → pushed ≡ trace ++ words ∷ [] → Reaches d first (take i choices) schedules (take i stimulus) trace now →
+    Shows schedule d now (get_or stimulus i []) (get_or choices i []) words after → Reaches d first (take (i + 1) choices) (schedules ++ schedule ∷ []) (take (i + 1) stimulus) pushed after
+reaches_next d first now after choices schedules stimulus trace pushed i schedule words within many push r s =
+    let cs : take (i + 1) choices ≡ take i choices ++ get_or choices i [] ∷ [] = take_more choices i [] (omega arith) in
+    let is : take (i + 1) stimulus ≡ take i stimulus ++ get_or stimulus i [] ∷ [] = take_more stimulus i [] within in
+    rw (cs, is, push) (reaches_more d first now after (take i choices) schedules (take i stimulus) trace (get_or choices i []) schedule (get_or stimulus i []) words r s)
 
 -- the same under the schedule of that index
-pub reaches_next_by : (d : Design) (first now after : Store) (choices : List (List Bool)) (schedules : List (List ℕ)) (stimulus trace pushed : List (List WordValue)) (i : ℕ) (choice : List Bool)
-    (input words : List WordValue) → i < length stimulus → length choices ≡ length stimulus → length schedules ≡ length stimulus → choice ≡ get_or choices i [] → input ≡ get_or stimulus i [] →
-    pushed ≡ trace ++ words ∷ [] → Reaches d first (take i choices) (take i schedules) (take i stimulus) trace now → Shows (get_or schedules i []) d now input choice words after →
+pub reaches_next_by : (d : Design) (first now after : Store) (choices : List (List Bool)) (schedules : List (List ℕ)) (stimulus trace pushed : List (List WordValue)) (i : ℕ) (words : List WordValue) →
+    i < length stimulus → length choices ≡ length stimulus → length schedules ≡ length stimulus → pushed ≡ trace ++ words ∷ [] →
+    Reaches d first (take i choices) (take i schedules) (take i stimulus) trace now → Shows (get_or schedules i []) d now (get_or stimulus i []) (get_or choices i []) words after →
     Reaches d first (take (i + 1) choices) (take (i + 1) schedules) (take (i + 1) stimulus) pushed after
-reaches_next_by d first now after choices schedules stimulus trace pushed i choice input words within many ordered chosen given push r s =
+reaches_next_by d first now after choices schedules stimulus trace pushed i words within many ordered push r s =
     let ss : take (i + 1) schedules ≡ take i schedules ++ get_or schedules i [] ∷ [] = take_more schedules i [] (omega arith) in
-    rw ss (reaches_next d first now after choices (take i schedules) stimulus trace pushed i choice (get_or schedules i []) input words within many chosen given push r s)
+    rw ss (reaches_next d first now after choices (take i schedules) stimulus trace pushed i (get_or schedules i []) words within many push r s)
 
 -- one schedule more of a kind
 pub each_more : {X : Type 0} (Has : X → Type 0) (xs : List X) (x : X) → Each Has xs → Has x → Each Has (xs ++ x ∷ [])
@@ -132,11 +127,10 @@ each_in_any_order (s ∷ schedules) = (tt, each_in_any_order schedules)
 
 -- ---- a schedule that is not complete
 
-pub is_halted : (d : Design) (now : Store) (choices : Choices) (schedules : List (List ℕ)) (stimulus trace : List (List WordValue)) (i : ℕ) (choice : List Bool) (input : List WordValue) (fault : Fault) →
-    i < length stimulus → choice ≡ get_or choices.cycles i [] → input ≡ get_or stimulus i [] →
-    Reaches d (first_store d.firsts choices.first) (take i choices.cycles) (take i schedules) (take i stimulus) trace now → HaltsIn schedules d now input choice i fault →
-    IsHalted schedules d choices stimulus fault
-is_halted d now choices schedules stimulus trace i choice input fault within chosen given r h = record {
+pub is_halted : (d : Design) (now : Store) (choices : Choices) (schedules : List (List ℕ)) (stimulus trace : List (List WordValue)) (i : ℕ) (fault : Fault) → i < length stimulus →
+    Reaches d (first_store d.firsts choices.first) (take i choices.cycles) (take i schedules) (take i stimulus) trace now →
+    HaltsIn schedules d now (get_or stimulus i []) (get_or choices.cycles i []) i fault → IsHalted schedules d choices stimulus fault
+is_halted d now choices schedules stimulus trace i fault within r h = record {
   cycle = i;
   index = h.index;
   halts = record {
@@ -144,7 +138,7 @@ is_halted d now choices schedules stimulus trace i choice input fault within cho
     shown = trace;
     last = now;
     runs = runs_of d (first_store d.firsts choices.first) now (take i choices.cycles) (take i schedules) (take i stimulus) trace r;
-    incomplete = rw (← chosen, ← given) h.incomplete;
+    incomplete = h.incomplete;
   };
   fault_is = h.fault_is;
 }
@@ -153,11 +147,10 @@ no_turn : Turn
 no_turn = record { inputs = []; choice = []; schedule = []; shown = [] }
 
 -- no run is there then
-pub none_runs : (d : Design) (now : Store) (choices : Choices) (schedules : List (List ℕ)) (stimulus trace other : List (List WordValue)) (i : ℕ) (choice : List Bool) (input : List WordValue)
-    (fault : Fault) → i < length stimulus → choice ≡ get_or choices.cycles i [] → input ≡ get_or stimulus i [] →
-    Reaches d (first_store d.firsts choices.first) (take i choices.cycles) (take i schedules) (take i stimulus) trace now → HaltsIn schedules d now input choice i fault →
-    RunsBy schedules d choices stimulus other → ⊥
-none_runs d now choices schedules stimulus trace other i choice input fault within chosen given r h run =
+pub none_runs : (d : Design) (now : Store) (choices : Choices) (schedules : List (List ℕ)) (stimulus trace other : List (List WordValue)) (i : ℕ) (fault : Fault) → i < length stimulus →
+    Reaches d (first_store d.firsts choices.first) (take i choices.cycles) (take i schedules) (take i stimulus) trace now →
+    HaltsIn schedules d now (get_or stimulus i []) (get_or choices.cycles i []) i fault → RunsBy schedules d choices stimulus other → ⊥
+none_runs d now choices schedules stimulus trace other i fault within r h run =
     let o = run.1 in
     let first = first_store d.firsts choices.first in
     let t : Turn = get_or o.turns i no_turn in
@@ -169,8 +162,8 @@ none_runs d now choices schedules stimulus trace other i choice input fault with
     let on = sure_on d first now run.0 r.turns (take i o.turns) (drop i o.turns) r.leads front_inputs front_chosen whole in
     let split : drop i o.turns ≡ t ∷ drop (i + 1) o.turns = drop_more o.turns i no_turn (omega arith) in
     let next : Leads d now (t ∷ drop (i + 1) o.turns) run.0 = rw split at on.1 in
-    let inputs : t.inputs ≡ word_values input =
-    sym (get_or-map (λ (u : Turn). u.inputs) o.turns i no_turn [] (omega arith)) ∙ ap (λ (xs : List (List ℕ)). get_or xs i []) o.inputs ∙ get_or-map word_values stimulus i [] [] within ∙ ap word_values (sym given) in
-    let taken : t.choice ≡ choice = sym (get_or-map (λ (u : Turn). u.choice) o.turns i no_turn [] (omega arith)) ∙ ap (λ (xs : List (List Bool)). get_or xs i []) o.chosen ∙ sym chosen in
+    let inputs : t.inputs ≡ word_values (get_or stimulus i []) =
+    sym (get_or-map (λ (u : Turn). u.inputs) o.turns i no_turn [] (omega arith)) ∙ ap (λ (xs : List (List ℕ)). get_or xs i []) o.inputs ∙ get_or-map word_values stimulus i [] [] within in
+    let taken : t.choice ≡ get_or choices.cycles i [] = sym (get_or-map (λ (u : Turn). u.choice) o.turns i no_turn [] (omega arith)) ∙ ap (λ (xs : List (List Bool)). get_or xs i []) o.chosen in
     let ordered : t.schedule ≡ get_or schedules i [] = sym (get_or-map (λ (u : Turn). u.schedule) o.turns i no_turn [] (omega arith)) ∙ ap (λ (xs : List (List ℕ)). get_or xs i []) o.ordered in
-    h.refused t.shown next.0 (same_cycle d now next.0 t.inputs (word_values input) t.choice choice t.schedule (get_or schedules i []) t.shown inputs taken ordered next.1)
+    h.refused t.shown next.0 (same_cycle d now next.0 t.inputs (word_values (get_or stimulus i [])) t.choice (get_or choices.cycles i []) t.schedule (get_or schedules i []) t.shown inputs taken ordered next.1)

@@ -30,23 +30,44 @@ fn line(words: Vec<Word>) -> Items<Word>
     line
 }
 
-// What one cycle shows in text order. It takes no memory but that of its answer.
+// The words of a cycle.
+fn words_of(stimulus: &Stimulus, number: usize) -> &[Word]
+    requires { number < length stimulus.now.cycles }
+    ensures { result.now ≡ get_or stimulus.now.cycles number [] }
+{
+    stimulus.cycles.as_slice()[number].as_slice()
+}
+
+// The bits of a cycle.
+fn bits_of(choices: &Choices, number: usize) -> &[bool]
+    requires { number < length choices.now.cycles }
+    ensures { result.now ≡ get_or choices.now.cycles number [] }
+{
+    choices.cycles.as_slice()[number].as_slice()
+}
+
+// What the cycle of this number shows in text order. It takes no memory but that of its answer.
 fn cycle(
     alloc: Global,
     core: &Core,
     machine: &mut Machine<'_>,
-    input: &[Word],
-    choice: &[bool],
+    stimulus: &Stimulus,
+    choices: &Choices,
+    number: usize,
 ) -> Result<Items<Word>, OutOfMemory>
     requires same { machine.old.core ≡ core.now }
     requires words { list_all is_word core.now.names ≡ true }
-    requires input { FitWidths (port_widths (design_in core.now).inputs) input.now }
-    requires choice { HasBits (cycle_bits (design_in core.now)) choice.now }
+    requires stimulus { CyclesFit (port_widths (design_in core.now).inputs) stimulus.now.cycles }
+    requires choices { Each (HasBits (cycle_bits (design_in core.now))) choices.now.cycles }
+    requires number { number < length stimulus.now.cycles }
+    requires many { length choices.now.cycles ≡ length stimulus.now.cycles }
     ensures same { machine.new.core ≡ core.now }
     ensures fits { IfOk result (λ out. FitWidths (port_widths (design_in core.now).outputs) out) }
-    ensures shows { IfOk result (λ out. ShowsInTextOrder (design_in core.now) machine.old.store input.now choice.now out machine.new.store) }
+    ensures shows { IfOk result (λ out. ShowsInTextOrder (design_in core.now) machine.old.store (get_or stimulus.now.cycles number []) (get_or choices.now.cycles number []) out machine.new.store) }
 {
-    let mut out = zeros(alloc, core.names.as_slice(), core.outputs.as_slice())?;
+    let input = words_of(stimulus, number);
+    let choice = bits_of(choices, number);
+    let mut out = zeros(alloc, core)?;
     machine.cycle(input, choice, out.as_mut_slice());
     Ok(line(out))
 }
@@ -57,22 +78,26 @@ fn cycle_by(
     alloc: Global,
     core: &Core,
     machine: &mut Machine<'_>,
-    input: &[Word],
-    choice: &[bool],
+    stimulus: &Stimulus,
+    choices: &Choices,
     schedules: &Schedules,
     number: usize,
 ) -> Result<Items<Word>, Stop>
     requires same { machine.old.core ≡ core.now }
     requires words { list_all is_word core.now.names ≡ true }
-    requires input { FitWidths (port_widths (design_in core.now).inputs) input.now }
-    requires choice { HasBits (cycle_bits (design_in core.now)) choice.now }
-    requires number { number < length schedules.now }
+    requires stimulus { CyclesFit (port_widths (design_in core.now).inputs) stimulus.now.cycles }
+    requires choices { Each (HasBits (cycle_bits (design_in core.now))) choices.now.cycles }
+    requires number { number < length stimulus.now.cycles }
+    requires many { length choices.now.cycles ≡ length stimulus.now.cycles }
+    requires schedules { length schedules.now ≡ length stimulus.now.cycles }
     ensures same { machine.new.core ≡ core.now }
     ensures fits { IfOk result (λ out. FitWidths (port_widths (design_in core.now).outputs) out) }
-    ensures shows { IfOk result (λ out. Shows (get_or schedules.now number []) (design_in core.now) machine.old.store input.now choice.now out machine.new.store) }
-    ensures halts { IfFault result (HaltsIn schedules.now (design_in core.now) machine.old.store input.now choice.now number) }
+    ensures shows { IfOk result (λ out. Shows (get_or schedules.now number []) (design_in core.now) machine.old.store (get_or stimulus.now.cycles number []) (get_or choices.now.cycles number []) out machine.new.store) }
+    ensures halts { IfFault result (HaltsIn schedules.now (design_in core.now) machine.old.store (get_or stimulus.now.cycles number []) (get_or choices.now.cycles number []) number) }
 {
-    let mut out = zeros(alloc, core.names.as_slice(), core.outputs.as_slice())?;
+    let input = words_of(stimulus, number);
+    let choice = bits_of(choices, number);
+    let mut out = zeros(alloc, core)?;
     let entries = schedules.entries(number);
     match machine.cycle_by(input, choice, entries, out.as_mut_slice()) {
         Ok(()) => Ok(line(out)),
@@ -105,11 +130,9 @@ pub fn trace(
     ensures every { IfOk result (λ t. RunsInAnyOrder (design_in core.now) choices.now stimulus.now.cycles t.cycles) }
 {
     let mut machine = Machine::new(alloc, core, order, choices.first.as_slice())?;
-    let inputs = stimulus.cycles.as_slice();
-    let bits = choices.cycles.as_slice();
     let mut cycles = Items::new(alloc);
-    for i in 0..inputs.len() {
-        let words = cycle(alloc, core, &mut machine, inputs[i].as_slice(), bits[i].as_slice())?;
+    for i in 0..stimulus.cycles.len() {
+        let words = cycle(alloc, core, &mut machine, stimulus, choices, i)?;
         cycles.push(words)?;
     }
     Ok(Trace { cycles })
@@ -140,12 +163,9 @@ pub fn trace_by(
     ensures refused { IfFault result (λ f. (trace : List (List WordValue)) → RunsBy schedules.now (design_in core.now) choices.now stimulus.now.cycles trace → ⊥) }
 {
     let mut machine = Machine::new(alloc, core, order, choices.first.as_slice())?;
-    let inputs = stimulus.cycles.as_slice();
-    let bits = choices.cycles.as_slice();
     let mut cycles = Items::new(alloc);
-    for i in 0..inputs.len() {
-        let input = inputs[i].as_slice();
-        let words = cycle_by(alloc, core, &mut machine, input, bits[i].as_slice(), schedules, i)?;
+    for i in 0..stimulus.cycles.len() {
+        let words = cycle_by(alloc, core, &mut machine, stimulus, choices, schedules, i)?;
         cycles.push(words)?;
     }
     Ok(Trace { cycles })

@@ -12,5 +12,5 @@ invariant-loop-i l = record {
   same : l.machine.core ≡ l.core;
   fit : CyclesFit (port_widths (design_in l.core).outputs) l.cycles;
   reaches : (schedules : List (List ℕ)) × Each InTextOrder schedules
-  × Reaches (design_in l.core) (first_store (design_in l.core).firsts l.choices.first) (take l.i l.choices.cycles) schedules (take l.i l.stimulus.cycles) l.cycles l.machine.store;
+      × Reaches (design_in l.core) (first_store (design_in l.core).firsts l.choices.first) (take l.i l.choices.cycles) schedules (take l.i l.stimulus.cycles) l.cycles l.machine.store;
 }

@@ -1,6 +1,6 @@
--- Runs, one cycle after another.
+-- The words of a cycle: their widths, the line of the trace that they make, and what a cycle over them shows.
 use Rattle.std.proofs.Common.{◌≡◌, ◌<◌, ◌≤◌, ◌+◌, ◌^◌, ◌++◌, ap, sym, subst, ◌∙◌, refl, arith, ℕ, zero, suc, List, [], ◌∷◌, length, get_or, take, drop, Bool, append-nil}
-use Rattle.std.proofs.lemmas.List.{get_or_read, length-map, take_all, take_more}
+use Rattle.std.proofs.lemmas.List.{length-map, take_all, take_more}
 use Rattle.std.proofs.lemmas.Grind.{common_steps}
 use Rattle.std.specs.Prelude.{Result, Err, ⊤}
 use Rattle.lz_base.specs.Answers.{IfFault}
@@ -23,18 +23,18 @@ drop_past xs i h = grind (arith, common_steps)
 
 -- ---- words
 
-pub fit_widths : (widths : List ℕ) (words : List WordValue) → FitWidths widths words → widths_of words ≡ widths
+fit_widths : (widths : List ℕ) (words : List WordValue) → FitWidths widths words → widths_of words ≡ widths
 fit_widths [] [] fit = refl
 fit_widths [] (w ∷ words) fit = absurd fit
 fit_widths (width ∷ widths) [] fit = absurd fit
 fit_widths (width ∷ widths) (w ∷ words) fit = (λ j. fit.0 j ∷ fit_widths widths words fit.2 j)
 
-pub word_values_are : (words : List WordValue) → word_values words ≡ values_of words
+word_values_are : (words : List WordValue) → word_values words ≡ values_of words
 word_values_are [] = refl
 word_values_are (w ∷ words) = ap (λ (ns : List ℕ). w.value ∷ ns) (word_values_are words)
 
 -- words that have the widths of ports are those of their values
-pub words_at_ports : (ports : List Port) (words : List WordValue) → widths_of words ≡ port_widths ports → words ≡ port_words ports (values_of words)
+words_at_ports : (ports : List Port) (words : List WordValue) → widths_of words ≡ port_widths ports → words ≡ port_words ports (values_of words)
 words_at_ports [] [] is = refl
 words_at_ports [] (w ∷ words) is = absurd (cc is)
 words_at_ports (p ∷ ports) [] is = absurd (cc is)
@@ -66,7 +66,7 @@ halts_in d before schedules number entries inputs choice index place is incomple
 }
 
 -- what a vector holds whose words were all written over
-pub written_over : (out items : List WordValue) (n : ℕ) → widths_of out ≡ widths_of items → length items ≡ n → take n (out ++ drop (length out) items) ≡ out
+written_over : (out items : List WordValue) (n : ℕ) → widths_of out ≡ widths_of items → length items ≡ n → take n (out ++ drop (length out) items) ≡ out
 written_over out items n widths many =
     let same : length out ≡ length items = sym (length-map out (λ (w : WordValue). w.width)) ∙ ap length widths ∙ length-map items (λ (w : WordValue). w.width) in
     let past : drop (length out) items ≡ [] = drop_past items (length out) (omega (arith, same)) in
@@ -80,17 +80,17 @@ line_of widths out items line n made kept many is fit =
     (is ∙ written, subst (λ (ns : List ℕ). FitWidths ns line) (ap widths_of written ∙ kept ∙ made) fit)
 
 -- the words of a cycle that is there fit
-pub cycle_there : (widths : List ℕ) (cycles : List (List WordValue)) (i : ℕ) (words : List WordValue) → CyclesFit widths cycles → i < length cycles → words ≡ get_or cycles i [] → FitWidths widths words
-cycle_there widths [] i words fit within is = absurd (omega arith)
-cycle_there widths (c ∷ cycles) zero words fit within is = rw is fit.0
-cycle_there widths (c ∷ cycles) (suc i) words fit within is = cycle_there widths cycles i words fit.1 (omega arith) is
+cycle_there : (widths : List ℕ) (cycles : List (List WordValue)) (i : ℕ) → CyclesFit widths cycles → i < length cycles → FitWidths widths (get_or cycles i [])
+cycle_there widths [] i fit within = absurd (omega arith)
+cycle_there widths (c ∷ cycles) zero fit within = fit.0
+cycle_there widths (c ∷ cycles) (suc i) fit within = cycle_there widths cycles i fit.1 (omega arith)
 
--- what was read at an index of a slice stands there in the list
-pub read_there : {X : Type 0} (xs items : List X) (i : ℕ) (x d : X) → items ≡ xs → i < length xs → x ≡ get_or items i x → x ≡ get_or xs i d
-read_there xs items i x d same within is = get_or_read xs i x within (rw same at is) d
+-- so they have the widths
+pub widths_there : (widths : List ℕ) (cycles : List (List WordValue)) (i : ℕ) (words : List WordValue) → CyclesFit widths cycles → i < length cycles → words ≡ get_or cycles i [] → widths_of words ≡ widths
+widths_there widths cycles i words fit within is = rw is (fit_widths widths (get_or cycles i []) (cycle_there widths cycles i fit within))
 
 -- one word more that keeps to its width
-pub keep_more : (words : List WordValue) (w : WordValue) → FitWidths (widths_of words) words → w.value < 2 ^ w.width → FitWidths (widths_of (words ++ w ∷ [])) (words ++ w ∷ [])
+keep_more : (words : List WordValue) (w : WordValue) → FitWidths (widths_of words) words → w.value < 2 ^ w.width → FitWidths (widths_of (words ++ w ∷ [])) (words ++ w ∷ [])
 keep_more [] w fit below = (refl, below, tt)
 keep_more (x ∷ words) w fit below = (fit.0, fit.1, keep_more words w fit.2 below)
 
@@ -101,11 +101,6 @@ keep_next words i w within is fit below =
     let more : take (i + 1) words ≡ take i words ++ w ∷ [] = take_more words i w within ∙ ap (λ (v : WordValue). take i words ++ v ∷ []) (sym is) in
     rw more (keep_more (take i words) w fit below)
 
--- words that keep to widths which these are
-pub fits_ports : (words seen : List WordValue) (widths : List ℕ) → seen ≡ words → widths_of words ≡ widths → FitWidths (widths_of seen) seen → FitWidths widths words
-fits_ports words seen widths is widths_are fit =
-    subst (λ (ns : List ℕ). FitWidths ns words) widths_are (subst (λ (ws : List WordValue). FitWidths (widths_of ws) ws) is fit)
-
 -- one cycle more whose words fit
 pub cycles_more : (widths : List ℕ) (cycles pushed : List (List WordValue)) (words : List WordValue) → pushed ≡ cycles ++ words ∷ [] → CyclesFit widths cycles → FitWidths widths words → CyclesFit widths pushed
 cycles_more widths cycles pushed words push fit fits = subst (CyclesFit widths) (sym push) (joined widths cycles words fit fits)
@@ -113,7 +108,6 @@ cycles_more widths cycles pushed words push fit fits = subst (CyclesFit widths) 
     joined : (widths : List ℕ) (cycles : List (List WordValue)) (words : List WordValue) → CyclesFit widths cycles → FitWidths widths words → CyclesFit widths (cycles ++ words ∷ [])
     joined widths [] words fit fits = (fits, tt)
     joined widths (c ∷ cycles) words fit fits = (fit.0, joined widths cycles words fit.1 fits)
-
 
 -- ---- faults
 

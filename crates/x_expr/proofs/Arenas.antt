@@ -1,0 +1,1 @@
+-- Nodes that come behind others keep the values of those.

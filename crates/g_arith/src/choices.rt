@@ -24,31 +24,6 @@ fn choose_bit(builder: &mut Builder<'_>, condition: Num, x: Num, y: Num) -> Resu
     Ok(literal)
 }
 
-// The word of which each bit is chosen.
-fn choose_bits(
-    alloc: Global,
-    builder: &mut Builder<'_>,
-    condition: Num,
-    x: &[Num],
-    y: &[Num],
-) -> Result<Bits, OutOfMemory>
-    requires no_output { builder.old.part.outputs ≡ [] }
-    requires condition { condition / 2 < node_count builder.old.part }
-    requires same_width { length y.now ≡ length x.now }
-    requires first { LiteralsBelow (node_count builder.old.part) x.now }
-    requires second { LiteralsBelow (node_count builder.old.part) y.now }
-    ensures number { IfOk result (λ bits. HasNumber builder.new.part bits (length x.now) (λ sources. if bit_in builder.old.part sources condition then number_in builder.old.part sources x.now else number_in builder.old.part sources y.now)) }
-    ensures adds { Adds builder.old.part builder.new.part }
-    ensures book { builder.new.book ≡ builder.old.book }
-{
-    let mut bits = Items::new(alloc);
-    for i in 0..x.len() {
-        let literal = choose_bit(builder, condition, x[i], y[i])?;
-        bits.push(literal)?;
-    }
-    Ok(bits)
-}
-
 /// The first word where the condition holds, and else the second. Both have one width. Where the condition is a constant,
 /// no gate is asked for.
 pub fn choose(
@@ -76,5 +51,10 @@ pub fn choose(
         let bits = Items::from_slice(alloc, y)?;
         return Ok(bits);
     }
-    choose_bits(alloc, builder, condition, x, y)
+    let mut bits = Items::new(alloc);
+    for i in 0..x.len() {
+        let literal = choose_bit(builder, condition, x[i], y[i])?;
+        bits.push(literal)?;
+    }
+    Ok(bits)
 }

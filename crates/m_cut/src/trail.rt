@@ -50,36 +50,24 @@ impl Trail {
         self.push_leaves(cut)
     }
 
-    // Reads a node. Where it is a gate that nobody has read, it goes on with its leaves.
-    fn take_node(
+    // Reads a node, or reads it no longer. Where it is a gate that nobody else reads, it goes on with its leaves.
+    fn change_node(
         &mut self,
         nodes: &[Node],
         cover: &mut Cover,
         number: u32,
+        way: Way,
     ) -> Result<bool, OutOfMemory> {
         self.touched.push(number)?;
-        let before = cover.take(number);
-        let new = before == 0 && is_gate(nodes, number);
-        if new {
+        let (before, others) = match way {
+            Way::Take => (cover.take(number), 0),
+            Way::Give => (cover.give(number), 1),
+        };
+        let alone = before == others && is_gate(nodes, number);
+        if alone {
             self.push_leaves(&cover.chosen(number))?;
         }
-        Ok(new)
-    }
-
-    // Reads a node no longer. Where it is a gate that nobody else reads, it goes on with its leaves.
-    fn give_node(
-        &mut self,
-        nodes: &[Node],
-        cover: &mut Cover,
-        number: u32,
-    ) -> Result<bool, OutOfMemory> {
-        self.touched.push(number)?;
-        let before = cover.give(number);
-        let last = before == 1 && is_gate(nodes, number);
-        if last {
-            self.push_leaves(&cover.chosen(number))?;
-        }
-        Ok(last)
+        Ok(alone)
     }
 
     // Reads the leaves of a cut, and goes on with those of the gates behind them, in at most so many steps.
@@ -96,10 +84,7 @@ impl Trail {
         for _step in 0..steps {
             match self.ahead.pop() {
                 Some(number) => {
-                    let changed = match way {
-                        Way::Take => self.take_node(nodes, cover, number)?,
-                        Way::Give => self.give_node(nodes, cover, number)?,
-                    };
+                    let changed = self.change_node(nodes, cover, number, way)?;
                     tables = tables.saturating_add(changed as u32);
                 }
                 None => break,

@@ -1,7 +1,7 @@
 -- So far the bits are those of the word that is chosen.
 use Rattle.std.proofs.Common.{◌≡◌, take, if◌then◌else◌}
 use Rattle.g_arith.specs.Words.{Adds, HasNumber, number_in, bit_in}
-use Rattle.g_arith.proofs.choices.choose_bits.Given as goal
+use Rattle.g_arith.proofs.choices.choose.Given as goal
 
 abbrev pub invariant-loop-i : goal.invariant-loop-i
 invariant-loop-i g l = record {

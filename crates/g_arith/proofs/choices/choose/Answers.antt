@@ -1,7 +1,7 @@
 use Rattle.std.proofs.Common.{arith, rules}
 use Rattle.g_arith.proofs.Growth.{adds_further, adds_none, one_there}
 use Rattle.g_arith.proofs.Choosing.{chosen_none, chosen_more, chosen_all}
-use Rattle.g_arith.proofs.choices.choose_bits.Goals as goal
+use Rattle.g_arith.proofs.choices.choose.Goals as goal
 
 pub choose_bit-requires-clause-first : goal.choose_bit-requires-clause-first
 choose_bit-requires-clause-first g c = one_there _ _ c.args.x.now c.loop-i.i c.loop-i.invariant.adds c.requires.first c.loop-i-test.true

@@ -11,10 +11,10 @@ use Rattle.lz_lines.specs.Tables.{IsTable, table_fields}
 use Rattle.lz_lines.proofs.Forms.{After, after_start, after_same, after_then, after_breaks, after_takes, after_line, line_broken, then_broken, done_takes, GoesOn}
 use Rattle.lz_lines.proofs.Places.{end_breaks}
 use Rattle.lz_lines.proofs.Standing.{Some_, some_ended, some_then, zero_there}
+use Rattle.lz_lines.specs.Sections.{end_line}
 use Rattle.g_net.specs.declared.proposal.Line.{Line}
 use Rattle.g_text.specs.Luts.{Always, IsLutText, IsNextLut, LutEnd, LutLines, LutTable, Tail, and_lut, head_word}
 use Rattle.g_text.specs.Proposals.{IsLut, IsProposal, first_line, lut_line}
-use Rattle.g_text.specs.Raw.{end_line}
 use Rattle.g_text.specs.declared.proposal.Head.{Head}
 use Rattle.g_text.specs.declared.proposal.Head.TheVariants as head
 

@@ -4,7 +4,9 @@ use Rattle.std.proofs.lemmas.List.{length-append}
 use Rattle.lz_lines.specs.Fields.{AreNumbers, IsBit, IsNameField, IsNumber, IsWord, bit, field, greatest, line_end, number}
 use Rattle.lz_lines.specs.Forms.{Anything, Done, EndNumbers, IsParted, LineOrLast, Takes, Then}
 use Rattle.lz_lines.specs.Keywords.{OneOf}
+use Rattle.lz_lines.specs.Sections.{end_line}
 use Rattle.lz_lines.proofs.Forms.{After, after_same, after_start}
+use Rattle.lz_lines.proofs.Sections.{last_comes}
 use Rattle.lz_lines.proofs.Standing.{Some_, a_name, ended_line, ended_parted, name_there, number_parted, numbers_parted, some_ended, some_then, zero_there, zeros, zeros_there}
 use Rattle.g_net.specs.declared.network.Gate.TheVariants as gate
 use Rattle.g_net.specs.Network.{NetworkValue}
@@ -15,7 +17,7 @@ use Rattle.g_text.specs.declared.line.Line.TheVariants as line
 use Rattle.g_text.specs.Grammar as g
 use Rattle.g_text.specs.Grammar.{IsLine, IsLiteral, IsNext, Pair, Rest, Tail}
 use Rattle.g_text.specs.Keys.{key_word, keys_of}
-use Rattle.g_text.specs.Raw.{bare, end_line, with_line}
+use Rattle.g_text.specs.Raw.{bare, with_line}
 use Rattle.g_text.proofs.Opening.{opens}
 use Rattle.g_text.proofs.Spelling.{pair, pair_out}
 
@@ -81,10 +83,6 @@ tail_none key.Carry text (a, f, b, h, (c, i, j, k, ended, d), e) = cc (ended.0)
 tail_none key.Output text (a, f, b, h, (c, i, j, k, ended, d), e) = cc (ended.0)
 tail_none key.End text ended = (refl, ended.1)
 
-end_comes : (ks : List Key) → OneOf key_word key.End ks key.End (key_word key.End)
-end_comes [] = (refl, refl)
-end_comes (k ∷ ks) = inr (end_comes ks)
-
 pub next_line : (n : NetworkValue) (bytes : List ℕ) → After (LineOrLast IsLine g.MayEnd end_line n) Anything bytes (IsNext (keys_of n)) bytes
 next_line n bytes = after_same (IsNext (keys_of n)) (after_start (LineOrLast IsLine g.MayEnd end_line n) Anything bytes) to from
   where
@@ -96,7 +94,7 @@ next_line n bytes = after_same (IsNext (keys_of n)) (after_start (LineOrLast IsL
     to (Some l) text is = is
 
     from : (v : Option Line) (text : List ℕ) → LineOrLast IsLine g.MayEnd end_line n v text → IsNext (keys_of n) v text
-    from None text is = (key.End, key_word key.End, line_end, end_comes (keys_of n), (refl, refl), is.1)
+    from None text is = (key.End, key_word key.End, line_end, last_comes key_word key.End (keys_of n), (refl, refl), is.1)
     from (Some l) text is = is
 
 pub lines_some : (n : NetworkValue) (l : Line) (text : List ℕ) → IsLine n l text → (v : NetworkValue) × (more : List ℕ) × Rest (with_line n l) v more

@@ -12,12 +12,13 @@ use Rattle.lz_lines.specs.References.{IsWrong}
 use Rattle.lz_lines.specs.Unread.{stop_of}
 use Rattle.lz_lines.proofs.Forms.{After, after_same, after_start}
 use Rattle.lz_lines.proofs.Places.{none_is, unreadable, whole_is, whole_only}
+use Rattle.lz_lines.specs.Sections.{end_line}
 use Rattle.g_net.specs.Network.{NetworkValue}
 use Rattle.g_text.specs.declared.line.Line.{Line}
 use Rattle.g_text.specs.Answers.{IsRefusal, IsText, IsTextOf}
 use Rattle.g_text.specs.Form.{HasForm}
 use Rattle.g_text.specs.Grammar.{IsLine, MayEnd, Whole}
-use Rattle.g_text.specs.Raw.{bare, body, end_line, with_line}
+use Rattle.g_text.specs.Raw.{bare, body, with_line}
 use Rattle.g_text.specs.Referred.{wrong_places}
 use Rattle.g_text.specs.Text.{head}
 use Rattle.g_text.proofs.Growing.{grows, bare_form}

@@ -3,6 +3,7 @@ use Rattle.std.specs.Prelude.{◌≡◌, ℕ, List, [], Bool, Option, None, Some
 use Rattle.lz_lines.specs.Fields.{AreNumbers, IsBit, IsNameField, IsNumber, IsWord, greatest, line_end}
 use Rattle.lz_lines.specs.Forms.{Done, Ended, Lines, Then}
 use Rattle.lz_lines.specs.Keywords.{OneOf}
+use Rattle.lz_lines.specs.Sections.{end_line}
 use Rattle.g_net.specs.declared.network.Gate.TheVariants.{And, Xor, Carry}
 use Rattle.g_net.specs.Network.{NetworkValue}
 use Rattle.g_text.specs.declared.line.Key.{Key}
@@ -10,7 +11,7 @@ use Rattle.g_text.specs.declared.line.Key.TheVariants as key
 use Rattle.g_text.specs.declared.line.Line.{Line}
 use Rattle.g_text.specs.declared.line.Line.TheVariants.{Clock, Input, Flip, Gate, Output}
 use Rattle.g_text.specs.Keys.{key_word, keys_of}
-use Rattle.g_text.specs.Raw.{bare, end_line, with_line}
+use Rattle.g_text.specs.Raw.{bare, with_line}
 use Rattle.g_text.specs.Text.{head}
 
 -- a literal, whatever it refers to

@@ -1,5 +1,6 @@
 -- The words that begin the lines of a network's text, and where each may come.
-use Rattle.std.specs.Prelude.{ℕ, List, [], ◌∷◌, codes, Bool, true, false, is_some}
+use Rattle.std.specs.Prelude.{ℕ, List, [], ◌∷◌, codes, Bool, is_some}
+use Rattle.lz_lines.specs.Sections.{Section, Clock, Inputs, Flops, Cells, Outputs, End, may_come, none, those}
 use Rattle.g_net.specs.Network.{NetworkValue}
 use Rattle.g_text.specs.declared.line.Key.{Key}
 use Rattle.g_text.specs.declared.line.Key.TheVariants as key
@@ -15,19 +16,25 @@ key_word key.Carry = codes "carry"
 key_word key.Output = codes "output"
 key_word key.End = codes "end"
 
-abbrev pub none : {A : Type 0} → List A → Bool
-none [] = true
-none (x ∷ xs) = false
+-- the section of a line
+abbrev pub section : Key → Section
+section key.Clock = Clock
+section key.Input = Inputs
+section key.Flip = Flops
+section key.And = Cells
+section key.Xor = Cells
+section key.Carry = Cells
+section key.Output = Outputs
+section key.End = End
+
+-- all but the end
+abbrev pub all_keys : List Key
+all_keys = key.Clock ∷ key.Input ∷ key.Flip ∷ key.And ∷ key.Xor ∷ key.Carry ∷ key.Output ∷ []
 
 -- The lines that may come next, besides the end: for whether there are no outputs, gates and flip-flops yet, whether
 -- there is a clock, and whether there are no inputs yet.
 abbrev pub keys : Bool → Bool → Bool → Bool → Bool → List Key
-keys false gates flips clock inputs = key.Output ∷ []
-keys true false flips clock inputs = key.And ∷ key.Xor ∷ key.Carry ∷ key.Output ∷ []
-keys true true false clock inputs = key.Flip ∷ key.And ∷ key.Xor ∷ key.Carry ∷ key.Output ∷ []
-keys true true true true inputs = key.Input ∷ key.Flip ∷ key.And ∷ key.Xor ∷ key.Carry ∷ key.Output ∷ []
-keys true true true false false = key.Input ∷ key.And ∷ key.Xor ∷ key.Carry ∷ key.Output ∷ []
-keys true true true false true = key.Clock ∷ key.Input ∷ key.And ∷ key.Xor ∷ key.Carry ∷ key.Output ∷ []
+keys outputs gates flips clock inputs = those (λ k. may_come outputs gates flips clock inputs (section k)) all_keys
 
 abbrev pub keys_of : NetworkValue → List Key
 keys_of n = keys (none n.outputs) (none n.gates) (none n.flips) (is_some n.clock) (none n.inputs)

@@ -3,11 +3,11 @@ use Rattle.std.specs.Prelude.{◌≡◌, ℕ, List, [], ◌∷◌, ◌++◌, cod
 use Rattle.lz_lines.specs.Fields.{IsNumber, greatest}
 use Rattle.lz_lines.specs.Forms.{Ended, LineOrLast, Lines, Then}
 use Rattle.lz_lines.specs.Tables.{IsTable}
+use Rattle.lz_lines.specs.Sections.{end_line}
 use Rattle.g_net.specs.declared.proposal.Line.{Line}
 use Rattle.g_text.specs.declared.proposal.Head.{Head}
 use Rattle.g_text.specs.declared.proposal.Head.TheVariants as head
 use Rattle.g_text.specs.Proposals.{IsLut, lut_line}
-use Rattle.g_text.specs.Raw.{end_line}
 
 -- the word that begins a line
 abbrev pub head_word : Head → List ℕ

@@ -3,11 +3,11 @@ use Rattle.std.specs.Prelude.{◌≡◌, ℕ, ◌^◌, ◌<◌, ◌≤◌, List,
 use Rattle.lz_lines.specs.Fields.{AllUpTo, Each, greatest, number}
 use Rattle.lz_lines.specs.Places.{HasText, IsPlace}
 use Rattle.lz_lines.specs.Tables.{table_fields}
+use Rattle.lz_lines.specs.Sections.{end_line}
 use Rattle.g_net.specs.declared.proposal.Line.{Line}
 use Rattle.g_net.specs.declared.proposal.Proposal.{Proposal}
 use Rattle.g_text.specs.declared.proposal.ProposalEnd.{ProposalEnd}
 use Rattle.g_text.specs.declared.proposal.ProposalEnd.TheVariants.{Unreadable, OutOfMemory}
-use Rattle.g_text.specs.Raw.{end_line}
 
 -- lut ROOT K NODE .. TABLE
 abbrev pub lut_line : Line → List ℕ

@@ -1,6 +1,6 @@
 -- A network whose lines were read, whatever its literals and names refer to.
-use Rattle.std.specs.Prelude.{ℕ, List, [], ◌∷◌, ◌++◌, flat_map, codes, None, Some}
-use Rattle.lz_lines.specs.Shared.{clock_line, input_line}
+use Rattle.std.specs.Prelude.{ℕ, List, [], ◌∷◌, ◌++◌, flat_map, None, Some}
+use Rattle.lz_lines.specs.Sections.{sections}
 use Rattle.g_net.specs.declared.network.Flip as flip
 use Rattle.g_net.specs.Network.{NetworkValue}
 use Rattle.g_text.specs.declared.line.Line.{Line}
@@ -24,10 +24,7 @@ with_line n (Output o) = record n { outputs = n.outputs ++ o ∷ [] }
 
 -- the lines between the model's and the end
 abbrev pub body : NetworkValue → List ℕ
-body n = clock_line n.clock ++ flat_map input_line n.inputs ++ flat_map flip_line n.flips ++ flat_map gate_line n.gates ++ flat_map named_line n.outputs
-
-abbrev pub end_line : List ℕ
-end_line = codes "end" ++ 10 ∷ []
+body n = sections flip_line gate_line n.clock n.inputs n.flips n.gates (flat_map named_line n.outputs)
 
 abbrev pub model_line : List ℕ → List ℕ
 model_line name = head ++ 32 ∷ name ++ 10 ∷ []

@@ -1,6 +1,7 @@
 ghost use Rattle.std.specs.Prelude.{◌≡◌, OnOk, IsTrue};
 ghost use Rattle.lz_lines.specs.Keywords.{all_apart};
-ghost use Rattle.g_text.specs.Keys.{key_word, keys, keys_of, none};
+ghost use Rattle.lz_lines.specs.Sections.{none};
+ghost use Rattle.g_text.specs.Keys.{key_word, keys, keys_of};
 ghost use Rattle.g_text.specs.Parts.{parts_value};
 ghost use Rattle.g_text.specs.Raw.{bare, with_line};
 

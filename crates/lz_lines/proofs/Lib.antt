@@ -12,3 +12,5 @@ pub mod MetNames
 pub mod Standing
 pub mod Referring
 pub mod TableFields
+pub mod Sections
+pub mod Faulting

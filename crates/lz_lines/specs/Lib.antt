@@ -8,3 +8,4 @@ pub mod Keywords
 pub mod Shared
 pub mod References
 pub mod Tables
+pub mod Sections

@@ -1,22 +1,14 @@
 -- The one spelling of a netlist in each format.
-use Rattle.std.specs.Prelude.{ℕ, ◌^◌, List, [], ◌∷◌, ◌++◌, length, flat_map, codes, Option, None, Some}
+use Rattle.std.specs.Prelude.{ℕ, ◌^◌, List, [], ◌∷◌, ◌++◌, length, flat_map, codes}
 use Rattle.lz_base.specs.declared.name.Port.{Port}
 use Rattle.lz_lines.specs.Fields.{field, number, hex, bit}
+use Rattle.lz_lines.specs.Shared.{clock_line, input_line, output_line}
 use Rattle.n_cells.specs.declared.format.Format.{Format}
 use Rattle.n_cells.specs.declared.format.Format.TheVariants.{One, Two}
 use Rattle.n_cells.specs.declared.netlist.Flop.{Flop}
 use Rattle.n_cells.specs.declared.netlist.Stored.{Stored}
 use Rattle.n_cells.specs.declared.netlist.Stored.TheVariants.{Lut, Carry}
 use Rattle.n_cells.specs.Netlist.{NetlistValue}
-
--- clock NAME, where there is a clock
-abbrev pub clock_line : Option (List ℕ) → List ℕ
-clock_line None = []
-clock_line (Some name) = codes "clock" ++ field name ++ 10 ∷ []
-
--- input NAME WIDTH
-abbrev pub input_line : Port → List ℕ
-input_line p = codes "input" ++ field p.name ++ number p.width ++ 10 ∷ []
 
 -- ff BIT NET, and in format 2 ENABLE
 abbrev pub flop_line : Format → Flop → List ℕ
@@ -29,13 +21,10 @@ cell_line (Lut leaves table) = codes "lut" ++ number (length leaves) ++ flat_map
 cell_line (Carry a b c) = codes "carry" ++ number a ++ number b ++ number c ++ 10 ∷ []
 
 -- output NAME NET .., bit 0 first
-abbrev pub output_line : Port → List ℕ → List ℕ
-output_line p nets = codes "output" ++ field p.name ++ flat_map number nets ++ 10 ∷ []
-
 abbrev pub output_lines : List Port → List (List ℕ) → List ℕ
 output_lines [] nets = []
 output_lines (p ∷ ps) [] = []
-output_lines (p ∷ ps) (n ∷ ns) = output_line p n ++ output_lines ps ns
+output_lines (p ∷ ps) (n ∷ ns) = output_line p.name n ++ output_lines ps ns
 
 -- lutnet and the format's number
 abbrev pub first_line : Format → List ℕ

@@ -6,7 +6,9 @@ use Rattle.lz_lines.specs.Forms.{Anything, EndNumbers, IsParted, LineOrLast, Tak
 use Rattle.lz_lines.specs.Keywords.{OneOf}
 use Rattle.lz_lines.specs.Tables.{IsTable, table_fields}
 use Rattle.lz_lines.proofs.Forms.{After, after_same, after_start}
+use Rattle.lz_lines.proofs.Sections.{last_comes}
 use Rattle.lz_lines.proofs.Standing.{Some_, a_name, ended_line, ended_parted, name_there, number_parted, numbers_parted, some_ended, some_then, zero_there, zeros, zeros_there}
+use Rattle.lz_lines.specs.Sections.{end_line}
 use Rattle.n_cells.specs.declared.format.Format.{Format}
 use Rattle.n_cells.specs.declared.format.Format.TheVariants as format_
 use Rattle.n_cells.specs.declared.netlist.Stored.TheVariants as stored
@@ -19,7 +21,7 @@ use Rattle.n_text.specs.declared.line.Line.TheVariants as line
 use Rattle.n_text.specs.Grammar as g
 use Rattle.n_text.specs.Grammar.{IsEnable, IsNet, IsNext, IsLine, Tail, Rest}
 use Rattle.n_text.specs.Keys.{key_word, keys_of}
-use Rattle.n_text.specs.Raw.{bare, end_line, with_line}
+use Rattle.n_text.specs.Raw.{bare, with_line}
 use Rattle.n_text.proofs.Opening.{opens}
 use Rattle.n_text.proofs.Spelling.{enable_field}
 
@@ -91,10 +93,6 @@ tail_none format key.Carry text (a, f, b, h, (c, i, j, k, (x, y, z, w, ends, u),
 tail_none format key.Output text (a, f, b, h, (c, i, j, k, ends, d), e) = cc ends.0
 tail_none format key.End text ends = (refl, ends.1)
 
-end_comes : (ks : List Key) → OneOf key_word key.End ks key.End (key_word key.End)
-end_comes [] = (refl, refl)
-end_comes (k ∷ ks) = inr (end_comes ks)
-
 pub next_line : (format : Format) (n : NetlistValue) (bytes : List ℕ) → After (LineOrLast (IsLine format) g.MayEnd end_line n) Anything bytes (IsNext format (keys_of n)) bytes
 next_line format n bytes = after_same (IsNext format (keys_of n)) (after_start (LineOrLast (IsLine format) g.MayEnd end_line n) Anything bytes) to from
   where
@@ -106,7 +104,7 @@ next_line format n bytes = after_same (IsNext format (keys_of n)) (after_start (
     to (Some l) text is = is
 
     from : (v : Option Line) (text : List ℕ) → LineOrLast (IsLine format) g.MayEnd end_line n v text → IsNext format (keys_of n) v text
-    from None text is = (key.End, key_word key.End, line_end, end_comes (keys_of n), (refl, refl), is.1)
+    from None text is = (key.End, key_word key.End, line_end, last_comes key_word key.End (keys_of n), (refl, refl), is.1)
     from (Some l) text is = is
 
 pub lines_some : (format : Format) (n : NetlistValue) (l : Line) (text : List ℕ) → IsLine format n l text → (v : NetlistValue) × (more : List ℕ) × Rest format (with_line n l) v more

@@ -13,13 +13,14 @@ use Rattle.lz_lines.specs.References.{IsWrong}
 use Rattle.lz_lines.specs.Unread.{IsWithin, stop_of}
 use Rattle.lz_lines.proofs.Forms.{After, after_same, after_start}
 use Rattle.lz_lines.proofs.Places.{none_is, unreadable, whole_is, whole_only}
+use Rattle.lz_lines.specs.Sections.{end_line}
 use Rattle.n_cells.specs.declared.format.Format.{Format}
 use Rattle.n_cells.specs.Form.{HasForm}
 use Rattle.n_cells.specs.Netlist.{NetlistValue}
 use Rattle.n_text.specs.declared.line.Line.{Line}
 use Rattle.n_text.specs.Answers.{IsRefusal, IsText, IsTextOf}
 use Rattle.n_text.specs.Grammar.{IsLine, MayEnd, Whole}
-use Rattle.n_text.specs.Raw.{bare, body, end_line, head, with_line}
+use Rattle.n_text.specs.Raw.{bare, body, head, with_line}
 use Rattle.n_text.specs.Referred.{wrong_places}
 use Rattle.n_text.proofs.Growing.{grows, bare_form}
 use Rattle.n_text.proofs.Sections.{lines_go}

@@ -4,6 +4,7 @@ use Rattle.lz_lines.specs.Fields.{AreNumbers, IsBit, IsNameField, IsNumber, IsWo
 use Rattle.lz_lines.specs.Forms.{Ended, Lines, Then}
 use Rattle.lz_lines.specs.Keywords.{OneOf}
 use Rattle.lz_lines.specs.Tables.{IsTable}
+use Rattle.lz_lines.specs.Sections.{end_line}
 use Rattle.n_cells.specs.declared.format.Format.{Format}
 use Rattle.n_cells.specs.declared.format.Format.TheVariants.{One, Two}
 use Rattle.n_cells.specs.declared.netlist.Stored.TheVariants as stored
@@ -14,7 +15,7 @@ use Rattle.n_text.specs.declared.line.Key.TheVariants as key
 use Rattle.n_text.specs.declared.line.Line.{Line}
 use Rattle.n_text.specs.declared.line.Line.TheVariants.{Clock, Input, Flop, Cell, Output}
 use Rattle.n_text.specs.Keys.{key_word, keys_of}
-use Rattle.n_text.specs.Raw.{bare, end_line, head, with_line}
+use Rattle.n_text.specs.Raw.{bare, head, with_line}
 
 -- a net, whatever it refers to
 abbrev pub IsNet : ℕ → List ℕ → Type 0

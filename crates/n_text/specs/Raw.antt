@@ -1,6 +1,6 @@
 -- A netlist whose lines were read, whatever its nets and names refer to.
-use Rattle.std.specs.Prelude.{ℕ, List, [], ◌∷◌, ◌++◌, flat_map, codes, None, Some}
-use Rattle.lz_lines.specs.Shared.{clock_line, input_line}
+use Rattle.std.specs.Prelude.{ℕ, List, [], ◌∷◌, ◌++◌, codes, None, Some}
+use Rattle.lz_lines.specs.Sections.{sections}
 use Rattle.n_cells.specs.declared.format.Format.{Format}
 use Rattle.n_cells.specs.Netlist.{NetlistValue}
 use Rattle.n_cells.specs.Text.{first_line, flop_line, cell_line, output_lines}
@@ -20,10 +20,7 @@ with_line n (Output p nets) = record n { outputs = n.outputs ++ p ∷ []; nets =
 
 -- the lines between the model's and the end
 abbrev pub body : Format → NetlistValue → List ℕ
-body format n = clock_line n.clock ++ flat_map input_line n.inputs ++ flat_map (flop_line format) n.flops ++ flat_map cell_line n.cells ++ output_lines n.outputs n.nets
-
-abbrev pub end_line : List ℕ
-end_line = codes "end" ++ 10 ∷ []
+body format n = sections (flop_line format) cell_line n.clock n.inputs n.flops n.cells (output_lines n.outputs n.nets)
 
 -- the first line, and the model's up to its name
 abbrev pub head : Format → List ℕ

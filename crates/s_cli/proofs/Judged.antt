@@ -7,15 +7,19 @@ use Rattle.lz_base.specs.declared.fault.Fault.{Fault}
 use Rattle.lz_base.specs.declared.fault.Stop.{Stop}
 use Rattle.lz_base.specs.declared.fault.Stop.TheVariants as stop
 use Rattle.lz_base.specs.declared.rule.Rule.TheVariants.{E1, E2}
+use Rattle.s_cli.specs.declared.status.Status.{Status}
 use Rattle.s_cli.specs.declared.status.Status.TheVariants as status
 use Rattle.v_syntax.specs.declared.module.Module.{Module}
 use Rattle.v_syntax.specs.declared.token.Token.{Token}
+use Rattle.v_syntax.specs.declared.small.SmallModule.{SmallModule}
 use Rattle.v_syntax.specs.ModuleGrammar.{Derives}
 use Rattle.v_syntax.specs.Tokens.{Lexes, BreaksAt}
 use Rattle.s_flow.specs.FirstBroken.{first_broken}
 use Rattle.s_flow.specs.Front.{IsMisread, IsBroken, IsNotSmall, IsRead}
+use Rattle.s_flow.specs.SmallText.{IsSmallText}
 use Rattle.s_cli.specs.declared.forms.Command.TheVariants as command
 use Rattle.s_cli.specs.Answers.{Decides}
+use Rattle.s_cli.specs.Sources.{IsSource, IsSourceJudged}
 use Rattle.s_cli.specs.Synthesis.{IsTranslation, IsJudged}
 
 -- A file has one token list or one place where it breaks, and not both; and its tokens derive one module.
@@ -30,63 +34,47 @@ one_fault : OneReading → (source : List ℕ) (ts us : List Token) (m n : Modul
 one_fault one source ts us m n ts_lexed us_lexed m_derived n_derived =
     ap first_broken (one.modules us m n (rw (one.tokens source ts us ts_lexed us_lexed) at m_derived) n_derived)
 
-pub judged_long : (source : List ℕ) → source_limit < length source → IsJudged source (status.Refused (record { rule = E1; at = source_limit }))
-judged_long source longer = record {
+-- ---- what every form of a source is judged by
+
+pub source_judged_long : (source : List ℕ) → source_limit < length source → IsSourceJudged source (status.Refused (record { rule = E1; at = source_limit }))
+source_judged_long source longer = record {
   too_long = λ _. inl refl;
   unlexed = λ _ within _. absurd (omega arith);
   unparsed = λ _ within _ _. absurd (omega arith);
   broken = λ _ _ _ within _ _ _. absurd (omega arith);
-  unsupported = λ _ _ within _ _ _ _. absurd (omega arith);
-  small = λ _ within _. absurd (omega arith);
 }
 
-pub judged_done : OneReading → (source output : List ℕ) → IsTranslation source output → IsJudged source status.Ok
-judged_done one source output t = record {
-  too_long = λ longer. absurd (omega (arith, t.within));
-  unlexed = λ at _ breaks. absurd (one.apart source t.spelled.tokens at t.spelled.lexed breaks);
-  unparsed = λ ts _ lexed none. absurd (none t.spelled.from.module_ (rw (one.tokens source ts t.spelled.tokens lexed t.spelled.lexed) t.spelled.from.derived));
-  broken = λ ts m fault _ lexed derived broken.
-      absurd (none-some _ (sym t.spelled.from.kept ∙ one_fault one source t.spelled.tokens ts t.spelled.from.module_ m t.spelled.lexed lexed t.spelled.from.derived derived ∙ broken));
-  unsupported = λ ts _ _ lexed _ _ none. absurd (none t.module_ (rw (one.tokens source ts t.spelled.tokens lexed t.spelled.lexed) t.spelled.from.small));
-  small = λ _ _ _. inl refl;
+pub source_judged_memory : (source : List ℕ) → IsSourceJudged source status.OutOfMemory
+source_judged_memory source = record { too_long = λ _. inr refl; unlexed = λ _ _ _. inr refl; unparsed = λ _ _ _ _. inr refl; broken = λ _ _ _ _ _ _ _. inr refl }
+
+-- a source that breaks no rule is refused for none
+pub source_judged_good : OneReading → (source : List ℕ) (m : Module) (result : Status) → IsSource source m → IsSourceJudged source result
+source_judged_good one source m result is = record {
+  too_long = λ longer. absurd (omega (arith, is.within));
+  unlexed = λ at _ breaks. absurd (one.apart source is.tokens at is.lexed breaks);
+  unparsed = λ ts _ lexed none. absurd (none m (rw (one.tokens source ts is.tokens lexed is.lexed) is.derived));
+  broken = λ ts n fault _ lexed derived broken. absurd (none-some _ (sym is.kept ∙ one_fault one source is.tokens ts m n is.lexed lexed is.derived derived ∙ broken));
 }
 
 -- a fault of the tokens
-judged_misread : OneReading → (source : List ℕ) (fault : Fault) (tokens : List Token) → length source ≤ source_limit → Lexes source tokens → IsMisread tokens (length source) fault → IsJudged source (status.Refused fault)
-judged_misread one source fault tokens within lexes (inl refused) = record {
+source_judged_misread : OneReading → (source : List ℕ) (fault : Fault) (tokens : List Token) → length source ≤ source_limit → Lexes source tokens → IsMisread tokens (length source) fault → IsSourceJudged source (status.Refused fault)
+source_judged_misread one source fault tokens within lexes (inl refused) = record {
   too_long = λ longer. absurd (omega arith);
   unlexed = λ at _ breaks. absurd (one.apart source tokens at lexes breaks);
   unparsed = λ ts _ lexed _. inl (fault, rw (one.tokens source ts tokens lexed lexes) refused, refl);
   broken = λ ts m _ _ lexed derived _. absurd (refused.none m (rw (one.tokens source ts tokens lexed lexes) at derived));
-  unsupported = λ ts m _ lexed derived _ _. absurd (refused.none m (rw (one.tokens source ts tokens lexed lexes) at derived));
-  small = λ s _ t. absurd (refused.none t.from.module_ (rw (one.tokens source t.tokens tokens t.lexed lexes) at t.from.derived));
 }
-judged_misread one source fault tokens within lexes (inr u) = record {
+source_judged_misread one source fault tokens within lexes (inr u) = record {
   too_long = λ longer. absurd (omega arith);
   unlexed = λ at _ breaks. absurd (one.apart source tokens at lexes breaks);
   unparsed = λ ts _ lexed none. absurd (none u.module_ (rw (one.tokens source ts tokens lexed lexes) u.derived));
   broken = λ ts m other _ lexed derived broken.
       let same : Some fault ≡ Some other = sym u.broken ∙ one_fault one source tokens ts u.module_ m lexes lexed u.derived derived ∙ broken in
       inl (ap (λ (f : Fault). status.Refused f) (same_Some fault other same));
-  unsupported = λ ts m _ lexed derived kept _. absurd (none-some _ (sym kept ∙ one_fault one source ts tokens m u.module_ lexed lexes derived u.derived ∙ u.broken));
-  small = λ s _ t.
-      absurd (none-some _ (sym t.from.kept ∙ one_fault one source t.tokens tokens t.from.module_ u.module_ t.lexed lexes t.from.derived u.derived ∙ u.broken));
 }
 
--- and a module that breaks no rule and is no small one
-judged_unmade : OneReading → (source : List ℕ) (fault : Fault) (tokens : List Token) → length source ≤ source_limit → Lexes source tokens → IsNotSmall tokens fault → IsJudged source (status.Refused fault)
-judged_unmade one source fault tokens within lexes none = record {
-  too_long = λ longer. absurd (omega arith);
-  unlexed = λ at _ breaks. absurd (one.apart source tokens at lexes breaks);
-  unparsed = λ ts _ lexed refused. absurd (refused none.module_ (rw (one.tokens source ts tokens lexed lexes) none.derived));
-  broken = λ ts m _ _ lexed derived broken.
-      absurd (none-some _ (sym none.kept ∙ one_fault one source tokens ts none.module_ m lexes lexed none.derived derived ∙ broken));
-  unsupported = λ _ _ _ _ _ _ _. inl (ap (λ (f : Fault). status.Refused f) none.fault_is);
-  small = λ s _ t. absurd (none.none s (rw (one.tokens source tokens t.tokens lexes t.lexed) t.from.small));
-}
-
-pub judged_broken : OneReading → (source : List ℕ) (fault : Fault) → length source ≤ source_limit → IsBroken source fault → IsJudged source (status.Refused fault)
-judged_broken one source fault within (inl r) = record {
+pub source_judged_broken : OneReading → (source : List ℕ) (fault : Fault) → length source ≤ source_limit → IsBroken source fault → IsSourceJudged source (status.Refused fault)
+source_judged_broken one source fault within (inl r) = record {
   too_long = λ longer. absurd (omega arith);
   unlexed = λ at _ breaks.
       let rule : fault.rule ≡ E2 = r.rule_is in
@@ -95,20 +83,54 @@ judged_broken one source fault within (inl r) = record {
       inl (ap (λ (f : Fault). status.Refused f) same);
   unparsed = λ ts _ lexed _. absurd (one.apart source ts fault.at lexed r.breaks);
   broken = λ ts _ _ _ lexed _ _. absurd (one.apart source ts fault.at lexed r.breaks);
-  unsupported = λ ts _ _ lexed _ _ _. absurd (one.apart source ts fault.at lexed r.breaks);
-  small = λ s _ t. absurd (one.apart source t.tokens fault.at t.lexed r.breaks);
 }
-judged_broken one source fault within (inr r) = judged_misread one source fault r.tokens within r.lexed r.holds
+source_judged_broken one source fault within (inr r) = source_judged_misread one source fault r.tokens within r.lexed r.holds
+
+no_misread : OneReading → (source : List ℕ) (fault : Fault) (tokens : List Token) (m : Module) → Lexes source tokens → IsMisread tokens (length source) fault → IsSource source m → ⊥
+no_misread one source fault tokens m lexes (inl refused) is = refused.none m (rw (one.tokens source is.tokens tokens is.lexed lexes) at is.derived)
+no_misread one source fault tokens m lexes (inr u) is = none-some _ (sym is.kept ∙ one_fault one source is.tokens tokens m u.module_ is.lexed lexes is.derived u.derived ∙ u.broken)
+
+-- a source that breaks a rule is a text of no module that breaks none
+pub no_source : OneReading → (source : List ℕ) (fault : Fault) (m : Module) → IsBroken source fault → IsSource source m → ⊥
+no_source one source fault m (inl r) is = one.apart source is.tokens fault.at is.lexed r.breaks
+no_source one source fault m (inr r) is = no_misread one source fault r.tokens m r.lexed r.holds is
+
+-- ---- synthesis
+
+small_source : (source : List ℕ) (s : SmallModule) → length source ≤ source_limit → (t : IsSmallText source s) → IsSource source t.from.module_
+small_source source s within t = record { tokens = t.tokens; within = within; lexed = t.lexed; derived = t.from.derived; kept = t.from.kept }
+
+pub judged_long : (source : List ℕ) → source_limit < length source → IsJudged source (status.Refused (record { rule = E1; at = source_limit }))
+judged_long source longer = record {
+  broken = source_judged_long source longer;
+  unsupported = λ _ _ within _ _ _ _. absurd (omega arith);
+  small = λ _ within _. absurd (omega arith);
+}
+
+pub judged_done : OneReading → (source output : List ℕ) → IsTranslation source output → IsJudged source status.Ok
+judged_done one source output t = record {
+  broken = source_judged_good one source t.spelled.from.module_ status.Ok (small_source source t.module_ t.within t.spelled);
+  unsupported = λ ts _ _ lexed _ _ none. absurd (none t.module_ (rw (one.tokens source ts t.spelled.tokens lexed t.spelled.lexed) t.spelled.from.small));
+  small = λ _ _ _. inl refl;
+}
+
+-- a module that breaks no rule and is no small one
+judged_unmade : OneReading → (source : List ℕ) (fault : Fault) (tokens : List Token) → length source ≤ source_limit → Lexes source tokens → IsNotSmall tokens fault → IsJudged source (status.Refused fault)
+judged_unmade one source fault tokens within lexes none = record {
+  broken = source_judged_good one source none.module_ (status.Refused fault) (record { tokens = tokens; within = within; lexed = lexes; derived = none.derived; kept = none.kept });
+  unsupported = λ _ _ _ _ _ _ _. inl (ap (λ (f : Fault). status.Refused f) none.fault_is);
+  small = λ s _ t. absurd (none.none s (rw (one.tokens source tokens t.tokens lexes t.lexed) t.from.small));
+}
+
+pub judged_broken : OneReading → (source : List ℕ) (fault : Fault) → length source ≤ source_limit → IsBroken source fault → IsJudged source (status.Refused fault)
+judged_broken one source fault within broken = record {
+  broken = source_judged_broken one source fault within broken;
+  unsupported = λ ts m _ lexed derived kept _. absurd (no_source one source fault m broken (record { tokens = ts; within = within; lexed = lexed; derived = derived; kept = kept }));
+  small = λ s _ t. absurd (no_source one source fault t.from.module_ broken (small_source source s within t));
+}
 
 pub judged_memory : (source : List ℕ) → IsJudged source status.OutOfMemory
-judged_memory source = record {
-  too_long = λ _. inr refl;
-  unlexed = λ _ _ _. inr refl;
-  unparsed = λ _ _ _ _. inr refl;
-  broken = λ _ _ _ _ _ _ _. inr refl;
-  unsupported = λ _ _ _ _ _ _ _. inr refl;
-  small = λ _ _ _. inr refl;
-}
+judged_memory source = record { broken = source_judged_memory source; unsupported = λ _ _ _ _ _ _ _. inr refl; small = λ _ _ _. inr refl }
 
 -- what the reader of small modules refuses
 pub small_refused : OneReading → (source : List ℕ) (e : Stop) → length source ≤ source_limit → IsRead source (Err e) → Decides (λ (v : Vec ℕ Global). IsTranslation source v.items) command.Synth (source ∷ []) (Err e)

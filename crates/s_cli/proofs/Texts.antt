@@ -1,12 +1,15 @@
 -- Files that were read, and one more.
-use Rattle.std.proofs.Common.{◌≡◌, ◌<◌, ◌+◌, ℕ, List, [], ◌∷◌, ◌++◌, length, take, get_or, Option, None, Some, Vec, refl, sym, ap, subst, arith, ◌∙◌, inl, inr}
-use Rattle.std.specs.Prelude.{String, string_bytes, slice_get}
+use Rattle.std.proofs.Common.{◌≡◌, ◌<◌, ◌+◌, ℕ, List, [], ◌∷◌, ◌++◌, length, take, Option, None, Some, Vec, refl, sym, ap, subst, arith, ◌∙◌, inl, inr}
+use Rattle.std.specs.Prelude.{String, slice_get}
 use Rattle.std.specs.declared.alloc.Global.{Global}
-use Rattle.std.proofs.lemmas.List.{take_more, map_push, length-append, length-take-le}
-use Rattle.std.proofs.lemmas.Option.{slice_get_within, get_or_from_slice_get}
+use Rattle.std.proofs.lemmas.List.{length-append, length-take-le}
+use Rattle.std.proofs.lemmas.Option.{slice_get_within}
+use Rattle.lz_base.proofs.Lists.{take_next}
 use Rattle.lz_base.specs.Outside.{Told}
 use Rattle.s_cli.specs.Texts.{AreShort, AreUnder, AreWhole, AnyMissing, IsMissing, IsShort, IsWhole, StandsSo, WereRead}
-use Rattle.s_cli.specs.Words.{bytes_of}
+use Rattle.s_cli.specs.declared.forms.Command.{Command}
+use Rattle.s_cli.specs.declared.forms.Command.TheVariants as command
+use Rattle.s_cli.specs.Words.{command_of, limits_of, names_for, names_in}
 
 abbrev Texts : Type 0
 Texts = List (Option (Vec ℕ Global))
@@ -58,24 +61,36 @@ short_more (l ∷ limits) [] limit text same h one = absurd (omega (arith, same)
 short_more (l ∷ limits) (t ∷ texts) limit text same h one = (h.0, short_more limits texts limit text (omega (arith, same)) h.1 one)
 
 -- The files before an index were read.
-pub record ReadTo (told : Told) (names : List (String Global)) (limits : List ℕ) (i : ℕ) (texts : Texts) : Type 0 where
-  pub read : WereRead told (bytes_of (take i names)) (take i limits) texts
-  pub there : IsMissing told (bytes_of (take i names)) → ⊥
+pub record ReadTo (told : Told) (names : List (List ℕ)) (limits : List ℕ) (i : ℕ) (texts : Texts) : Type 0 where
+  pub read : WereRead told (take i names) (take i limits) texts
+  pub there : IsMissing told (take i names) → ⊥
   pub count : length texts ≡ i
   pub short : AreShort (take i limits) texts
 
 -- and the one there too
-pub read_next : (told : Told) (names : List (String Global)) (limits : List ℕ) (i : ℕ) (texts more : Texts) (name : String Global) (limit : ℕ) (text : Option (Vec ℕ Global))
-    → ReadTo told names limits i texts → i < length names → name ≡ get_or names i name → slice_get limits i ≡ Some limit → StandsSo told (string_bytes name) (IsWhole limit text) → IsShort limit text
+pub read_next : (told : Told) (names : List (List ℕ)) (limits : List ℕ) (i : ℕ) (texts more : Texts) (name : List ℕ) (limit : ℕ) (text : Option (Vec ℕ Global))
+    → ReadTo told names limits i texts → slice_get names i ≡ Some name → slice_get limits i ≡ Some limit → StandsSo told name (IsWhole limit text) → IsShort limit text
     → more ≡ texts ++ text ∷ [] → ReadTo told names limits (i + 1) more
-read_next told names limits i texts more name limit text before within at_name at_limit stands short_one grown =
-    let within_limits : i < length limits = slice_get_within limits i limit at_limit in
-    let limits_on : take (i + 1) limits ≡ take i limits ++ limit ∷ [] = take_more limits i limit within_limits ∙ ap (λ l. take i limits ++ l ∷ []) (get_or_from_slice_get limits i limit limit at_limit) in
-    let names_on : bytes_of (take (i + 1) names) ≡ bytes_of (take i names) ++ string_bytes name ∷ [] =
-    ap bytes_of (take_more names i name within ∙ ap (λ (n : String Global). take i names ++ n ∷ []) (sym at_name)) ∙ map_push (λ (word : String Global). string_bytes word) (take i names) name in
+read_next told names limits i texts more name limit text before at_name at_limit stands short_one grown =
+    let within : i < length limits = slice_get_within limits i limit at_limit in
+    let limits_on = take_next limits i limit at_limit in
+    let names_on = take_next names i name at_name in
     record {
-      read = rw (grown, limits_on, names_on) (read_more told (bytes_of (take i names)) (take i limits) texts (string_bytes name) limit text before.read stands);
-      there = rw names_on (there_more told (bytes_of (take i names)) (string_bytes name) (IsWhole limit text) stands before.there);
+      read = rw (grown, limits_on, names_on) (read_more told (take i names) (take i limits) texts name limit text before.read stands);
+      there = rw names_on (there_more told (take i names) name (IsWhole limit text) stands before.there);
       count = rw grown (length-append texts (text ∷ []) ∙ ap (λ k. k + 1) before.count);
-      short = rw (grown, limits_on) (short_more (take i limits) texts limit text (before.count ∙ sym (length-take-le i limits (omega (arith, within_limits)))) before.short short_one);
+      short = rw (grown, limits_on) (short_more (take i limits) texts limit text (before.count ∙ sym (length-take-le i limits (omega (arith, within)))) before.short short_one);
     }
+
+-- a form has a limit for each of its files
+pub names_count : (words : List (String Global)) (c : Command) → command_of words ≡ Some c → length (names_in words) ≡ length (limits_of c)
+names_count words c is = rw is (counted c) where
+  counted : (c : Command) → length (names_for (Some c) words) ≡ length (limits_of c)
+  counted command.Synth = refl
+  counted command.Map = refl
+  counted command.MapFile = refl
+  counted command.Simv = refl
+  counted command.SimvBy = refl
+  counted command.Simn = refl
+  counted (command.Lanes count) = refl
+  counted command.Upgrade = refl

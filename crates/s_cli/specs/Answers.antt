@@ -11,7 +11,7 @@ use Rattle.s_cli.specs.declared.status.Status.{Status}
 use Rattle.s_cli.specs.declared.status.Status.TheVariants as status
 use Rattle.s_cli.specs.Mapping.{Answering, IsMappedBy, IsMappedWith, IsNetworkFault, IsNetworkJudged}
 use Rattle.s_cli.specs.Simulation.{ShowsRun, ShowsStreams, IsSimulation, IsUnsimulated, AreJudged, IsNetlistFault}
-use Rattle.s_cli.specs.SourceRun.{IsSourceRun, IsUnrun, AreRunJudged}
+use Rattle.s_cli.specs.SourceRun.{IsSourceRun, IsUnrun, AreRunJudged, by_schedules, in_text_order}
 use Rattle.s_cli.specs.Synthesis.{IsTranslation, IsSourceFault, IsJudged}
 use Rattle.s_cli.specs.Texts.{AreUnder}
 use Rattle.s_cli.specs.Upgrade.{IsUpgrade, IsOldJudged}
@@ -21,7 +21,7 @@ use Rattle.n_cells.specs.declared.format.Format.TheVariants.{One}
 abbrev pub IfTold : Told → List (List ℕ) → (List (List ℕ) → Type 0) → Type 0
 IfTold told names P = (contents : List (List ℕ)) → AreUnder told names contents → P contents
 
--- a fact of one file, of two, and of three
+-- a fact of one file, of two, of three, and of four
 abbrev pub OfOne : List (List ℕ) → (List ℕ → Type 0) → Type 0
 OfOne [] P = ⊤
 OfOne (a ∷ []) P = P a
@@ -40,6 +40,14 @@ OfThree (a ∷ b ∷ []) P = ⊤
 OfThree (a ∷ b ∷ c ∷ []) P = P a b c
 OfThree (a ∷ b ∷ c ∷ d ∷ more) P = ⊤
 
+abbrev pub OfFour : List (List ℕ) → (List ℕ → List ℕ → List ℕ → List ℕ → Type 0) → Type 0
+OfFour [] P = ⊤
+OfFour (a ∷ []) P = ⊤
+OfFour (a ∷ b ∷ []) P = ⊤
+OfFour (a ∷ b ∷ c ∷ []) P = ⊤
+OfFour (a ∷ b ∷ c ∷ d ∷ []) P = P a b c d
+OfFour (a ∷ b ∷ c ∷ d ∷ e ∷ more) P = ⊤
+
 -- what holds of an output with which nothing is noted
 abbrev pub Unnoted : List ℕ → Type 0 → Type 0
 Unnoted note P = (note ≡ []) × P
@@ -49,7 +57,8 @@ abbrev pub IsOutputBy : Command → Answering → List (List ℕ) → List ℕ �
 IsOutputBy command.Synth may_answer files output note = Unnoted note (OfOne files (λ source. IsTranslation source output))
 IsOutputBy command.Map may_answer files output note = OfOne files (λ network. IsMappedBy may_answer network output note)
 IsOutputBy command.MapFile may_answer files output note = OfTwo files (λ network proposal. IsMappedWith network proposal output note)
-IsOutputBy command.Simv may_answer files output note = Unnoted note (OfThree files (λ source stimulus choices. IsSourceRun source stimulus choices output))
+IsOutputBy command.Simv may_answer files output note = Unnoted note (OfThree files (λ source stimulus choices. IsSourceRun in_text_order source stimulus choices output))
+IsOutputBy command.SimvBy may_answer files output note = Unnoted note (OfFour files (λ source stimulus choices schedules. IsSourceRun (by_schedules schedules) source stimulus choices output))
 IsOutputBy command.Simn may_answer files output note = Unnoted note (OfTwo files (λ netlist stimulus. IsSimulation ShowsRun netlist stimulus output))
 IsOutputBy (command.Lanes count) may_answer files output note = Unnoted note (OfTwo files (λ netlist stimulus. IsSimulation (ShowsStreams count) netlist stimulus output))
 IsOutputBy command.Upgrade may_answer files output note = Unnoted note (OfOne files (λ old. IsUpgrade old output))
@@ -59,7 +68,8 @@ abbrev pub IsRefusalBy : Command → List (List ℕ) → Fault → Type 0
 IsRefusalBy command.Synth files fault = OfOne files (λ source. IsSourceFault source fault)
 IsRefusalBy command.Map files fault = OfOne files (λ network. IsNetworkFault network fault)
 IsRefusalBy command.MapFile files fault = OfTwo files (λ network _. IsNetworkFault network fault)
-IsRefusalBy command.Simv files fault = OfThree files (λ source stimulus choices. IsUnrun source stimulus choices fault)
+IsRefusalBy command.Simv files fault = OfThree files (λ source stimulus choices. IsUnrun in_text_order source stimulus choices fault)
+IsRefusalBy command.SimvBy files fault = OfFour files (λ source stimulus choices schedules. IsUnrun (by_schedules schedules) source stimulus choices fault)
 IsRefusalBy command.Simn files fault = OfTwo files (λ netlist stimulus. IsUnsimulated netlist stimulus fault)
 IsRefusalBy (command.Lanes count) files fault = OfTwo files (λ netlist stimulus. IsUnsimulated netlist stimulus fault)
 IsRefusalBy command.Upgrade files fault = OfOne files (λ old. IsNetlistFault One old fault)
@@ -69,7 +79,8 @@ abbrev pub IsJudgedBy : Command → List (List ℕ) → Status → Type 0
 IsJudgedBy command.Synth files result = OfOne files (λ source. IsJudged source result)
 IsJudgedBy command.Map files result = OfOne files (λ network. IsNetworkJudged network result)
 IsJudgedBy command.MapFile files result = OfTwo files (λ network _. IsNetworkJudged network result)
-IsJudgedBy command.Simv files result = OfThree files (λ source stimulus choices. AreRunJudged source stimulus choices result)
+IsJudgedBy command.Simv files result = OfThree files (λ source stimulus choices. AreRunJudged in_text_order source stimulus choices result)
+IsJudgedBy command.SimvBy files result = OfFour files (λ source stimulus choices schedules. AreRunJudged (by_schedules schedules) source stimulus choices result)
 IsJudgedBy command.Simn files result = OfTwo files (λ netlist stimulus. AreJudged netlist stimulus result)
 IsJudgedBy (command.Lanes count) files result = OfTwo files (λ netlist stimulus. AreJudged netlist stimulus result)
 IsJudgedBy command.Upgrade files result = OfOne files (λ old. IsOldJudged old result)

@@ -1,6 +1,7 @@
 pub mod Words
 pub mod Texts
 pub mod Status
+pub mod Sources
 pub mod Synthesis
 pub mod Simulation
 pub mod SourceRun

@@ -26,10 +26,10 @@ pub record IsNetlist (format : Format) (bytes : List ℕ) (n : NetlistValue) : T
   pub formed : IsWellFormed n
   pub printed : bytes ≡ text format n
 
--- the bytes are the text of this stimulus for the netlist's inputs
-pub record IsStimulus (n : NetlistValue) (bytes : List ℕ) (cycles : List (List WordValue)) : Type 0 where
+-- the bytes are the text of this stimulus for inputs of these widths
+pub record IsStimulus (widths : List ℕ) (bytes : List ℕ) (cycles : List (List WordValue)) : Type 0 where
   pub within : length bytes ≤ text_limit
-  pub printed : IsText stimulus_text (widths_of n.inputs) bytes cycles
+  pub printed : IsText stimulus_text widths bytes cycles
 
 -- The netlist is refused with this fault: it is too long, or its bytes are no text, or a reference is wrong.
 abbrev pub IsNetlistFault : Format → List ℕ → Fault → Type 0
@@ -37,15 +37,15 @@ IsNetlistFault format bytes fault =
     ((text_limit < length bytes) × (fault ≡ record { rule = N1; at = text_limit }))
     ⊎ ((length bytes ≤ text_limit) × IsRefusal format bytes fault)
 
--- The stimulus is refused with this fault: it is too long, or its bytes are no text for the netlist's inputs.
-abbrev pub IsStimulusFault : NetlistValue → List ℕ → Fault → Type 0
-IsStimulusFault n bytes fault =
+-- The stimulus is refused with this fault: it is too long, or its bytes are no text for inputs of these widths.
+abbrev pub IsStimulusFault : List ℕ → List ℕ → Fault → Type 0
+IsStimulusFault widths bytes fault =
     ((text_limit < length bytes) × (fault ≡ record { rule = T1; at = text_limit }))
-    ⊎ ((length bytes ≤ text_limit) × IsUnreadable (trace.IsStimulus (widths_of n.inputs)) T1 bytes fault)
+    ⊎ ((length bytes ≤ text_limit) × IsUnreadable (trace.IsStimulus widths) T1 bytes fault)
 
 -- The netlist is refused, or it is not and the stimulus is.
 abbrev pub IsUnsimulated : List ℕ → List ℕ → Fault → Type 0
-IsUnsimulated netlist stimulus fault = IsNetlistFault Two netlist fault ⊎ ((n : NetlistValue) × IsNetlist Two netlist n × IsStimulusFault n stimulus fault)
+IsUnsimulated netlist stimulus fault = IsNetlistFault Two netlist fault ⊎ ((n : NetlistValue) × IsNetlist Two netlist n × IsStimulusFault (widths_of n.inputs) stimulus fault)
 
 -- what one simulation of a netlist shows
 abbrev pub ShowsRun : NetlistValue → List (List WordValue) → List (List WordValue) → Type 0
@@ -62,7 +62,7 @@ pub record IsSimulation (Shows : NetlistValue → List (List WordValue) → List
   pub cycles : List (List WordValue)
   pub shown : List (List WordValue)
   pub read : IsNetlist Two netlist simulated
-  pub driven : IsStimulus simulated stimulus cycles
+  pub driven : IsStimulus (widths_of simulated.inputs) stimulus cycles
   pub run : Shows simulated cycles shown
   pub printed : output ≡ trace_text shown
 
@@ -70,6 +70,6 @@ pub record IsSimulation (Shows : NetlistValue → List (List WordValue) → List
 -- judged first, then the stimulus by the netlist's inputs.
 pub record AreJudged (netlist stimulus : List ℕ) (result : Status) : Type 0 where
   pub bad_netlist : ((n : NetlistValue) → IsNetlist Two netlist n → ⊥) → IsRefusedUnlessMemory result (IsNetlistFault Two netlist)
-  pub bad_stimulus : (n : NetlistValue) → IsNetlist Two netlist n → ((cycles : List (List WordValue)) → IsStimulus n stimulus cycles → ⊥)
-      → IsRefusedUnlessMemory result (IsStimulusFault n stimulus)
-  pub good : (n : NetlistValue) (cycles : List (List WordValue)) → IsNetlist Two netlist n → IsStimulus n stimulus cycles → IsUnlessMemory result status.Ok
+  pub bad_stimulus : (n : NetlistValue) → IsNetlist Two netlist n → ((cycles : List (List WordValue)) → IsStimulus (widths_of n.inputs) stimulus cycles → ⊥)
+      → IsRefusedUnlessMemory result (IsStimulusFault (widths_of n.inputs) stimulus)
+  pub good : (n : NetlistValue) (cycles : List (List WordValue)) → IsNetlist Two netlist n → IsStimulus (widths_of n.inputs) stimulus cycles → IsUnlessMemory result status.Ok

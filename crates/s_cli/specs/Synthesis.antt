@@ -1,8 +1,8 @@
 -- What the synthesis of a source answers.
-use Rattle.std.specs.Prelude.{◌≡◌, ◌⊎◌, ℕ, ◌<◌, ◌≤◌, List, length, None, Some}
+use Rattle.std.specs.Prelude.{◌≡◌, ◌⊎◌, ℕ, ◌≤◌, List, length, None}
 use Rattle.lz_base.specs.Limits.{source_limit}
 use Rattle.lz_base.specs.declared.fault.Fault.{Fault}
-use Rattle.lz_base.specs.declared.rule.Rule.TheVariants.{E1, E2, U1}
+use Rattle.lz_base.specs.declared.rule.Rule.TheVariants.{U1}
 use Rattle.lz_machine.specs.Machine.{Realises}
 use Rattle.n_cells.specs.Netlist.{NetlistValue, IsWellFormed}
 use Rattle.n_cells.specs.AsMachine.{netlist_machine}
@@ -13,16 +13,16 @@ use Rattle.v_syntax.specs.declared.small.SmallModule.{SmallModule}
 use Rattle.v_syntax.specs.declared.module.Module.{Module}
 use Rattle.v_syntax.specs.declared.token.Token.{Token}
 use Rattle.v_syntax.specs.ModuleGrammar.{Derives}
-use Rattle.v_syntax.specs.Tokens.{Lexes, BreaksAt}
+use Rattle.v_syntax.specs.Tokens.{Lexes}
 use Rattle.v_syntax.specs.Small.{IsSmall}
-use Rattle.v_parser.specs.Refusal as parser
 use Rattle.v_meaning.specs.SmallMachine.{module_machine, EverySchedule}
 use Rattle.s_flow.specs.FirstBroken.{first_broken}
 use Rattle.s_flow.specs.SmallText.{IsSmallText}
 use Rattle.s_flow.specs.Front.{IsUnmade}
 use Rattle.s_cli.specs.declared.status.Status.{Status}
 use Rattle.s_cli.specs.declared.status.Status.TheVariants as status
-use Rattle.s_cli.specs.Status.{IsUnlessMemory, IsRefusedUnlessMemory}
+use Rattle.s_cli.specs.Status.{IsUnlessMemory}
+use Rattle.s_cli.specs.Sources.{IsSourceJudged, IsTooLong}
 
 -- The output for a source: the text of a netlist that is well formed and realises the module of the source under every
 -- schedule of its processes. It has the form that the reader of netlists asks for, so that the text is read back as this
@@ -37,25 +37,15 @@ pub record IsTranslation (source output : List ℕ) : Type 0 where
   pub realised : Realises (module_machine EverySchedule module_) (netlist_machine netlist)
   pub printed : output ≡ text Two netlist
 
--- the source is too long
-pub record IsTooLong (source : List ℕ) (fault : Fault) : Type 0 where
-  pub longer : source_limit < length source
-  pub fault_is : fault ≡ record { rule = E1; at = source_limit }
-
--- The source is refused with this fault: it is too long; or this is the first rule that it breaks of E2 to E13, U1 for a
--- combinational process, P1 to P10 and W1; or it breaks none of them and is a text of no small module, which is U1 too.
+-- The source is refused with this fault: it is too long, or this is the first rule that it breaks; or it breaks none and is
+-- a text of no small module, which is U1 too.
 abbrev pub IsSourceFault : List ℕ → Fault → Type 0
 IsSourceFault source fault = IsTooLong source fault ⊎ ((length source ≤ source_limit) × IsUnmade source fault)
 
 -- What the status is where no call on the files and on the output failed, each unless memory was wanting: the first
 -- rule that is broken, U1 for a module that breaks none and is no small one, and Ok for a small one that breaks none.
 pub record IsJudged (source : List ℕ) (result : Status) : Type 0 where
-  pub too_long : source_limit < length source → IsUnlessMemory result (status.Refused (record { rule = E1; at = source_limit }))
-  pub unlexed : (at : ℕ) → length source ≤ source_limit → BreaksAt source at → IsUnlessMemory result (status.Refused (record { rule = E2; at = at }))
-  pub unparsed : (tokens : List Token) → length source ≤ source_limit → Lexes source tokens → ((m : Module) → Derives tokens m → ⊥)
-      → IsRefusedUnlessMemory result (parser.IsRefused tokens (length source))
-  pub broken : (tokens : List Token) (m : Module) (fault : Fault) → length source ≤ source_limit → Lexes source tokens → Derives tokens m → first_broken m ≡ Some fault
-      → IsUnlessMemory result (status.Refused fault)
+  pub broken : IsSourceJudged source result
   pub unsupported : (tokens : List Token) (m : Module) → length source ≤ source_limit → Lexes source tokens → Derives tokens m → first_broken m ≡ None
       → ((s : SmallModule) → IsSmall tokens s → ⊥) → IsUnlessMemory result (status.Refused (record { rule = U1; at = 0 }))
   pub small : (s : SmallModule) → length source ≤ source_limit → IsSmallText source s → IsUnlessMemory result status.Ok

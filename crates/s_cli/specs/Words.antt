@@ -1,5 +1,5 @@
 -- What the words of the command line ask for.
-use Rattle.std.specs.Prelude.{ℕ, List, [], ◌∷◌, ◌+◌, ◌-◌, ◌*◌, ◌≤◌, ⊤, length, map, take, drop, codes, Option, None, Some, String, string_bytes, Bool, ◌&&◌, ◌==◌, if◌then◌else◌}
+use Rattle.std.specs.Prelude.{ℕ, List, [], ◌∷◌, ◌+◌, ◌-◌, ◌*◌, ◌≤◌, ⊤, length, map, take, get_or, codes, Option, None, Some, String, string_bytes, Bool, ◌&&◌, ◌==◌, if◌then◌else◌}
 use lib.Pointwise.{pointwise}
 use Rattle.std.specs.declared.alloc.Global.{Global}
 use Rattle.lz_base.specs.Limits.{source_limit, text_limit}
@@ -25,16 +25,32 @@ lanes_by (d ∷ e ∷ f ∷ more) = None
 abbrev pub is_word : String Global → List ℕ → Bool
 is_word word bytes = pointwise ◌==◌ (string_bytes word) bytes
 
--- the form of words; the first one is compared byte by byte, and names of files are any words
+-- the form that a word stands for with so many words behind it
+
+abbrev pub with_one : String Global → Option Command
+with_one verb =
+    if is_word verb (codes "synth") then Some command.Synth
+    else (if is_word verb (codes "map") then Some command.Map else (if is_word verb (codes "upgrade") then Some command.Upgrade else None))
+
+abbrev pub with_two : String Global → Option Command
+with_two verb = if is_word verb (codes "map") then Some command.MapFile else (if is_word verb (codes "simn") then Some command.Simn else None)
+
+abbrev pub with_three : String Global → String Global → Option Command
+with_three verb last = if is_word verb (codes "simv") then Some command.Simv else (if is_word verb (codes "lanes") then lanes_by (string_bytes last) else None)
+
+abbrev pub with_option : String Global → String Global → Option Command
+with_option verb option = if is_word verb (codes "simv") then (if is_word option (codes "--schedule") then Some command.SimvBy else None) else None
+
+-- the form of words; the first one and `--schedule` are compared byte by byte, and names of files are any words
 abbrev pub command_of : List (String Global) → Option Command
 command_of [] = None
 command_of (a ∷ []) = None
-command_of (a ∷ b ∷ []) =
-    if is_word a (codes "synth") then Some command.Synth
-    else (if is_word a (codes "map") then Some command.Map else (if is_word a (codes "upgrade") then Some command.Upgrade else None))
-command_of (a ∷ b ∷ c ∷ []) = if is_word a (codes "map") then Some command.MapFile else (if is_word a (codes "simn") then Some command.Simn else None)
-command_of (a ∷ b ∷ c ∷ d ∷ []) = if is_word a (codes "simv") then Some command.Simv else (if is_word a (codes "lanes") then lanes_by (string_bytes d) else None)
-command_of (a ∷ b ∷ c ∷ d ∷ e ∷ more) = None
+command_of (a ∷ b ∷ []) = with_one a
+command_of (a ∷ b ∷ c ∷ []) = with_two a
+command_of (a ∷ b ∷ c ∷ d ∷ []) = with_three a d
+command_of (a ∷ b ∷ c ∷ d ∷ e ∷ []) = None
+command_of (a ∷ b ∷ c ∷ d ∷ e ∷ f ∷ []) = with_option a e
+command_of (a ∷ b ∷ c ∷ d ∷ e ∷ f ∷ g ∷ more) = None
 
 -- how many bytes each file of a form may have, in the order of the words
 abbrev pub limits_of : Command → List ℕ
@@ -42,14 +58,19 @@ limits_of command.Synth = source_limit ∷ []
 limits_of command.Map = text_limit ∷ []
 limits_of command.MapFile = text_limit ∷ text_limit ∷ []
 limits_of command.Simv = source_limit ∷ text_limit ∷ text_limit ∷ []
+limits_of command.SimvBy = source_limit ∷ text_limit ∷ text_limit ∷ text_limit ∷ []
 limits_of command.Simn = text_limit ∷ text_limit ∷ []
 limits_of (command.Lanes count) = text_limit ∷ text_limit ∷ []
 limits_of command.Upgrade = text_limit ∷ []
 
+-- which of the words, from 0, name its files: the first three behind the verb, and the one behind the option
+abbrev pub places_of : Command → List ℕ
+places_of c = take (length (limits_of c)) (1 ∷ 2 ∷ 3 ∷ 5 ∷ [])
+
 -- the names of the files
 abbrev pub names_for : Option Command → List (String Global) → List (List ℕ)
 names_for None words = []
-names_for (Some c) words = take (length (limits_of c)) (drop 1 (bytes_of words))
+names_for (Some c) words = map (λ place. get_or (bytes_of words) place []) (places_of c)
 
 abbrev pub names_in : List (String Global) → List (List ℕ)
 names_in words = names_for (command_of words) words
@@ -60,6 +81,7 @@ IsForm command.Synth = ⊤
 IsForm command.Map = ⊤
 IsForm command.MapFile = ⊤
 IsForm command.Simv = ⊤
+IsForm command.SimvBy = ⊤
 IsForm command.Simn = ⊤
 IsForm (command.Lanes count) = (1 ≤ count) × (count ≤ 64)
 IsForm command.Upgrade = ⊤

@@ -6,7 +6,7 @@ ghost use Rattle.s_cli.specs.Words.{IsForm, limits_of};
 use crate::Command;
 use crate::mapping::{map, map_with};
 use crate::simulation::{trace, trace_lanes};
-use crate::source_run::source_trace;
+use crate::source_run::{scheduled_trace, source_trace};
 use crate::synthesis::translate;
 use crate::upgrading::upgrade;
 use lz_base::Stop;
@@ -61,6 +61,10 @@ pub(crate) fn answer(
         Command::MapFile => Ok(noted(map_with(alloc, &texts[0], &texts[1])?)),
         Command::Simv => {
             Ok(unnoted(alloc, source_trace(alloc, &texts[0], &texts[1], &texts[2])?))
+        }
+        Command::SimvBy => {
+            let trace = scheduled_trace(alloc, &texts[0], &texts[1], &texts[2], &texts[3])?;
+            Ok(unnoted(alloc, trace))
         }
         Command::Simn => Ok(unnoted(alloc, trace(alloc, &texts[0], &texts[1])?)),
         Command::Lanes { count } => {

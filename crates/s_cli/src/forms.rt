@@ -1,4 +1,4 @@
-/// A form of the command line. The names of its files are the words behind the first one, in their order.
+/// A form of the command line. The names of its files are the words in capitals but COUNT, in their order.
 #[derive(Clone, Copy, Debug, PartialEq, Eq)]
 pub enum Command {
     /// `synth FILE`
@@ -9,6 +9,8 @@ pub enum Command {
     MapFile,
     /// `simv FILE STIM CHOICES`
     Simv,
+    /// `simv FILE STIM CHOICES --schedule SCHEDULES`
+    SimvBy,
     /// `simn NETLIST STIM`
     Simn,
     /// `lanes NETLIST STIM COUNT`, where COUNT is one or two decimal digits, from 1 to 64.

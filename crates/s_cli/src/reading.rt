@@ -1,9 +1,9 @@
-ghost use Rattle.std.specs.Prelude.{◌≡◌, ◌≤◌, ◌^◌, length, IfOk};
+ghost use Rattle.std.specs.Prelude.{◌≡◌, ◌≤◌, ◌^◌, length, Some, IfOk};
 ghost use Rattle.s_cli.specs.Status.{CausesTexts};
 ghost use Rattle.s_cli.specs.Texts.{AreShort, IsMissing, IsShort, IsWhole, StandsSo, WereRead};
-ghost use Rattle.s_cli.specs.Words.{bytes_of, limits_of};
+ghost use Rattle.s_cli.specs.Words.{command_of, limits_of, names_in};
 
-use crate::words::limit;
+use crate::words::{file_count, file_name, limit};
 use crate::{Command, Status};
 use lz_base::{Files, ReadEnd, read_file};
 use std::alloc::Global;
@@ -34,19 +34,20 @@ pub(crate) fn read_texts<F: Files>(
     alloc: Global,
     files: &mut F,
     command: Command,
-    names: &[String],
+    words: &[String],
 ) -> Result<Vec<Option<Vec<u8>>>, Status>
-    requires { length names.now ≡ length (limits_of command) }
+    requires { command_of words.now ≡ Some command }
     ensures cause { CausesTexts (F.faults files.old) (F.faults files.new) result }
     ensures told { F.told files.new ≡ F.told files.old }
-    ensures read { IfOk result (λ texts. WereRead (F.told files.old) (bytes_of names.now) (limits_of command) texts.items) }
-    ensures there { IfOk result (λ _. IsMissing (F.told files.old) (bytes_of names.now) → ⊥) }
+    ensures read { IfOk result (λ texts. WereRead (F.told files.old) (names_in words.now) (limits_of command) texts.items) }
+    ensures there { IfOk result (λ _. IsMissing (F.told files.old) (names_in words.now) → ⊥) }
     ensures count { IfOk result (λ texts. length texts.items ≡ length (limits_of command)) }
     ensures short { IfOk result (λ texts. AreShort (limits_of command) texts.items) }
 {
     let mut texts = Vec::new(alloc);
-    for i in 0..names.len() {
-        let text = read_text(alloc, files, names[i].as_str(), limit(command, i))?;
+    for i in 0..file_count(command) {
+        let name = file_name(words, command, i).as_str();
+        let text = read_text(alloc, files, name, limit(command, i))?;
         texts.push(text)?;
     }
     Ok(texts)

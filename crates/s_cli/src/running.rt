@@ -1,15 +1,15 @@
-ghost use Rattle.std.specs.Prelude.{◌≡◌, ◌<◌, ◌≤◌, ◌↔◌, List, ℕ, length, None, Some, take, Err, IfOk, IfErr};
+ghost use Rattle.std.specs.Prelude.{◌≡◌, ◌<◌, ◌≤◌, ◌↔◌, List, ℕ, None, Some, take, Err, IfOk, IfErr};
 ghost use Rattle.std.specs.Io.KnownBytes.{Appends};
 ghost use Rattle.lz_base.specs.Causes.{Rose};
 ghost use Rattle.s_cli.specs.Status.{OnDone, OnWriteFault, OnReadFault, IfRefused, OnSilent, Writes, WritesBoth, IsFailure, IsUnlessMemory, status_of, status_line};
 ghost use Rattle.s_cli.specs.Answers.{ForOutput, IfTold, IsOutputBy, IsRefusal, IsRefusalBy, IsCalledFor, IsJudgedBy};
 ghost use Rattle.s_cli.specs.Texts.{IsMissing};
-ghost use Rattle.s_cli.specs.Words.{IsForm, bytes_of, command_of, limits_of, names_in};
+ghost use Rattle.s_cli.specs.Words.{IsForm, command_of, names_in};
 
 use crate::answering::{Output, answer};
 use crate::reading::read_texts;
 use crate::reporting::{report, write_line};
-use crate::words::{command, file_count};
+use crate::words::command;
 use crate::{Command, Status};
 use lz_base::{Files, Sink, write_all};
 use m_mapper::Mapper;
@@ -19,23 +19,23 @@ use std::alloc::Global;
 fn output<F: Files>(
     alloc: Global,
     command: Command,
-    names: &[String],
+    words: &[String],
     files: &mut F,
     mapper: &Box<dyn Mapper>,
 ) -> Result<Output, Status>
+    requires words { command_of words.now ≡ Some command }
     requires form { IsForm command }
-    requires count { length names.now ≡ length (limits_of command) }
     ensures failure { IfErr result IsFailure }
     ensures no_usage { result ≡ Err Status.Usage → ⊥ }
     ensures read { IfErr result (λ s. OnReadFault s (Rose (F.faults files.old) (F.faults files.new))) }
     ensures read_always { F.faults files.old < F.faults files.new → result ≡ Err Status.ReadFault }
-    ensures missing { IsMissing (F.told files.old) (bytes_of names.now) → IsUnlessMemory (status_of result) Status.ReadFault }
+    ensures missing { IsMissing (F.told files.old) (names_in words.now) → IsUnlessMemory (status_of result) Status.ReadFault }
     ensures told { F.told files.new ≡ F.told files.old }
-    ensures refused { IfErr result (λ s. IfRefused s (λ fault. IfTold (F.told files.old) (bytes_of names.now) (λ contents. IsRefusalBy command contents fault))) }
-    ensures done { IfOk result (λ o. IfTold (F.told files.old) (bytes_of names.now) (λ contents. IsOutputBy command (may_answer mapper.now) contents o.text.items o.note.items)) }
-    ensures complete { (Rose (F.faults files.old) (F.faults files.new) → ⊥) → IfTold (F.told files.old) (bytes_of names.now) (λ contents. IsJudgedBy command contents (status_of result)) }
+    ensures refused { IfErr result (λ s. IfRefused s (λ fault. IfTold (F.told files.old) (names_in words.now) (λ contents. IsRefusalBy command contents fault))) }
+    ensures done { IfOk result (λ o. IfTold (F.told files.old) (names_in words.now) (λ contents. IsOutputBy command (may_answer mapper.now) contents o.text.items o.note.items)) }
+    ensures complete { (Rose (F.faults files.old) (F.faults files.new) → ⊥) → IfTold (F.told files.old) (names_in words.now) (λ contents. IsJudgedBy command contents (status_of result)) }
 {
-    let texts = read_texts(alloc, files, command, names)?;
+    let texts = read_texts(alloc, files, command, words)?;
     Ok(answer(alloc, command, texts.as_slice(), mapper)?)
 }
 
@@ -66,7 +66,7 @@ fn execute<F: Files, O: Sink, E: Sink>(
     let Some(command) = command(words) else {
         return Status::Usage;
     };
-    match output(alloc, command, names(words, command), files, mapper) {
+    match output(alloc, command, words, files, mapper) {
         Ok(output) => {
             write_line(err, &output.note);
             match write_all(out, &output.text) {
@@ -76,15 +76,6 @@ fn execute<F: Files, O: Sink, E: Sink>(
         }
         Err(status) => status,
     }
-}
-
-// The names of the files.
-fn names(words: &[String], command: Command) -> &[String]
-    requires { command_of words.now ≡ Some command }
-    ensures names { bytes_of result.now ≡ names_in words.now }
-    ensures count { length result.now ≡ length (limits_of command) }
-{
-    &words[1..1 + file_count(command)]
 }
 
 /// Does what the words after the program's name ask: it reads the named files, in their order, and makes the whole

@@ -7,7 +7,7 @@ ghost use Rattle.s_cli.specs.Reading.{Drives, Reads};
 ghost use Rattle.s_cli.specs.Simulation.{IsSimulation, ShowsRun, ShowsStreams};
 ghost use Rattle.s_cli.specs.Texts.{IsShort, IsWhole};
 ghost use Rattle.s_flow.specs.Simulation.{widths_of};
-ghost use Rattle.t_trace.specs.Widths.{CyclesFit};
+ghost use Rattle.t_trace.specs.Widths.{AreWidths, CyclesFit};
 
 use lz_base::{Fault, Rule, Stop, TEXT_LIMIT};
 use n_cells::Netlist;
@@ -29,20 +29,34 @@ fn netlist_of(alloc: Global, text: &Option<Vec<u8>>) -> Result<Netlist, Stop>
     }
 }
 
-// The stimulus of a text, for a netlist's inputs.
-fn stimulus_of(alloc: Global, netlist: &Netlist, text: &Option<Vec<u8>>) -> Result<Stimulus, Stop>
-    requires { IsShort text_limit text.now }
-    ensures drives { Drives netlist.now text.now result }
-    ensures fit { IfOk result (λ s. CyclesFit (widths_of netlist.now.inputs) s.cycles) }
+/// The stimulus of a text, for inputs of these widths.
+pub(crate) fn stimulus_in(
+    alloc: Global,
+    widths: &[u32],
+    text: &Option<Vec<u8>>,
+) -> Result<Stimulus, Stop>
+    requires widths { AreWidths widths.now }
+    requires short { IsShort text_limit text.now }
+    ensures drives { Drives widths.now text.now result }
+    ensures fit { IfOk result (λ s. CyclesFit widths.now s.cycles) }
 {
-    let widths = widths(alloc, netlist.inputs())?;
     match text {
-        Some(bytes) => read_stimulus(alloc, bytes.as_slice(), widths.as_slice()),
+        Some(bytes) => read_stimulus(alloc, bytes.as_slice(), widths),
         None => Err(Stop::Fault(Fault {
             rule: Rule::T1,
             at: TEXT_LIMIT,
         })),
     }
+}
+
+// The stimulus of a text, for a netlist's inputs.
+fn stimulus_of(alloc: Global, netlist: &Netlist, text: &Option<Vec<u8>>) -> Result<Stimulus, Stop>
+    requires { IsShort text_limit text.now }
+    ensures drives { Drives (widths_of netlist.now.inputs) text.now result }
+    ensures fit { IfOk result (λ s. CyclesFit (widths_of netlist.now.inputs) s.cycles) }
+{
+    let widths = widths(alloc, netlist.inputs())?;
+    stimulus_in(alloc, widths.as_slice(), text)
 }
 
 /// What `simn NETLIST STIM` writes: the trace of the netlist's run over the stimulus. The netlist is judged first, and

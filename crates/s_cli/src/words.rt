@@ -1,5 +1,5 @@
-ghost use Rattle.std.specs.Prelude.{◌≡◌, ◌<◌, ◌≤◌, ◌^◌, length, Some, slice_get, IfSome};
-ghost use Rattle.s_cli.specs.Words.{IsForm, command_of, lanes_by, limits_of};
+ghost use Rattle.std.specs.Prelude.{◌≡◌, ◌<◌, ◌≤◌, ◌^◌, length, Some, slice_get, string_bytes, IfSome};
+ghost use Rattle.s_cli.specs.Words.{IsForm, command_of, lanes_by, limits_of, names_in, with_one, with_option, with_three, with_two};
 
 use crate::Command;
 use lz_base::{SOURCE_LIMIT, TEXT_LIMIT};
@@ -26,22 +26,75 @@ fn lanes_by(count: &[u8]) -> Option<Command>
     }
 }
 
+// The form of a word with one behind it.
+fn with_one(verb: &String) -> Option<Command>
+    ensures by { result ≡ with_one verb.now }
+    ensures form { IfSome result IsForm }
+{
+    if verb.as_str() == "synth" {
+        Some(Command::Synth)
+    } else if verb.as_str() == "map" {
+        Some(Command::Map)
+    } else if verb.as_str() == "upgrade" {
+        Some(Command::Upgrade)
+    } else {
+        None
+    }
+}
+
+// The form of a word with two behind it.
+fn with_two(verb: &String) -> Option<Command>
+    ensures by { result ≡ with_two verb.now }
+    ensures form { IfSome result IsForm }
+{
+    if verb.as_str() == "map" {
+        Some(Command::MapFile)
+    } else if verb.as_str() == "simn" {
+        Some(Command::Simn)
+    } else {
+        None
+    }
+}
+
+// The form of a word with three behind it.
+fn with_three(verb: &String, last: &String) -> Option<Command>
+    ensures by { result ≡ with_three verb.now last.now }
+    ensures form { IfSome result IsForm }
+{
+    if verb.as_str() == "simv" {
+        Some(Command::Simv)
+    } else if verb.as_str() == "lanes" {
+        lanes_by(last.as_bytes())
+    } else {
+        None
+    }
+}
+
+// The form of a word with five behind it, of which the fourth is an option.
+fn with_option(verb: &String, option: &String) -> Option<Command>
+    ensures by { result ≡ with_option verb.now option.now }
+    ensures form { IfSome result IsForm }
+{
+    if verb.as_str() == "simv" && option.as_str() == "--schedule" {
+        Some(Command::SimvBy)
+    } else {
+        None
+    }
+}
+
 /// The form of the words after the program's name. `None` comes exactly where they are of no form.
 ///
-/// The first word is compared byte by byte, and every other word but COUNT is a file name, whatever it is. It takes no
-/// memory.
+/// The first word and `--schedule` are compared byte by byte, and every other word but COUNT is a file name, whatever it is.
+/// It takes no memory.
 pub fn command(words: &[String]) -> Option<Command>
     ensures by { result ≡ command_of words.now }
     ensures form { IfSome result IsForm }
 {
     match words {
-        [verb, _] if verb.as_str() == "synth" => Some(Command::Synth),
-        [verb, _] if verb.as_str() == "map" => Some(Command::Map),
-        [verb, _] if verb.as_str() == "upgrade" => Some(Command::Upgrade),
-        [verb, _, _] if verb.as_str() == "map" => Some(Command::MapFile),
-        [verb, _, _] if verb.as_str() == "simn" => Some(Command::Simn),
-        [verb, _, _, _] if verb.as_str() == "simv" => Some(Command::Simv),
-        [verb, _, _, count] if verb.as_str() == "lanes" => lanes_by(count.as_bytes()),
+        [verb, _] => with_one(verb),
+        [verb, _, _] => with_two(verb),
+        [verb, _, _, last] => with_three(verb, last),
+        [verb, _, _, _, option, _] => with_option(verb, option),
         _ => None,
     }
 }
@@ -54,7 +107,18 @@ pub(crate) fn file_count(command: Command) -> usize
         Command::Synth | Command::Map | Command::Upgrade => 1,
         Command::MapFile | Command::Simn | Command::Lanes { .. } => 2,
         Command::Simv => 3,
+        Command::SimvBy => 4,
     }
+}
+
+/// The word that names the file at an index.
+pub(crate) fn file_name(words: &[String], command: Command, index: usize) -> &String
+    requires form { command_of words.now ≡ Some command }
+    requires index { index < length (limits_of command) }
+    ensures { slice_get (names_in words.now) index ≡ Some (string_bytes result.now) }
+{
+    let place = if index < 3 { index + 1 } else { 5 };
+    &words[place]
 }
 
 /// How many bytes the file at an index may have.
@@ -65,13 +129,7 @@ pub(crate) fn limit(command: Command, index: usize) -> u64
 {
     match command {
         Command::Synth => SOURCE_LIMIT,
-        Command::Simv => {
-            if index == 0 {
-                SOURCE_LIMIT
-            } else {
-                TEXT_LIMIT
-            }
-        }
+        Command::Simv | Command::SimvBy => { if index == 0 { SOURCE_LIMIT } else { TEXT_LIMIT } }
         Command::Map
         | Command::MapFile
         | Command::Simn

@@ -1,5 +1,5 @@
 -- The first rule that a module breaks, by what each of the judges of its rules says.
-use Rattle.std.proofs.Common.{◌≡◌, ◌∙◌, ap, sym, subst, refl, List, [], ◌∷◌, Bool, false, None, Some, Result, Err}
+use Rattle.std.proofs.Common.{◌≡◌, ◌∙◌, ap, sym, subst, refl, List, [], ◌∷◌, Bool, false, Option, None, Some, Result, Err}
 use Rattle.std.specs.Prelude.{◌↔◌, IsTrue}
 use Rattle.std.specs.Result.{IsErrAnd}
 use Rattle.std.proofs.lemmas.Result.{err_from_is_err_and}
@@ -41,12 +41,12 @@ unread_none [] h = refl
 unread_none (p ∷ more) h = absurd (cc h)
 
 -- a module that breaks no rule breaks none of the first ones, none of the later ones, and has clocked processes alone
-pub kept_parts : (m : Module) → first_broken m ≡ None → (mistyped m ≡ None) × ((misused m ≡ None) × IsClocked m)
+pub kept_parts : (m : Module) → first_broken m ≡ None → (mistyped m ≡ None) × (misused m ≡ None) × IsClocked m
 kept_parts m kept =
     let c : List ProcessUse = combinational_of (uses_of (names_of m) m) in
     let outer = or_later_none (mistyped m) (or_later (unread c) (misused m)) kept in
-    let inner = or_later_none (unread c) (misused m) outer.2 in
-    (outer.1, (inner.2, unread_none c inner.1))
+    let inner = or_later_none (unread c) (misused m) outer.1 in
+    (outer.0, inner.1, unread_none c inner.0)
 
 -- ---- what is handed on
 

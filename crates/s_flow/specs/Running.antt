@@ -2,10 +2,17 @@
 use Rattle.std.specs.Prelude.{ℕ, List, length, Result, Ok, Err, ⊤}
 use Rattle.lz_base.specs.declared.fault.Stop.{Stop}
 use Rattle.lz_base.specs.declared.fault.Stop.TheVariants as stop
+use Rattle.v_syntax.specs.declared.module.Module.{Module}
 use Rattle.v_syntax.specs.declared.token.Token.{Token}
+use Rattle.v_syntax.specs.ModuleGrammar.{Derives}
+use Rattle.v_syntax.specs.Tokens.{AreTokens}
 use Rattle.v_machine.specs.Runnable.{CanRun}
 use Rattle.s_flow.specs.declared.readying.Prepared.{Prepared}
 use Rattle.s_flow.specs.Front.{IsBroken, IsMisread, IsTyped, OfTokens}
+
+-- this holds where some tokens at ascending places derive the module, as those of each file do
+abbrev pub IfSpelled : Module → Type 0 → Type 0
+IfSpelled m P = (from end_ : ℕ) (tokens : List Token) → AreTokens from end_ tokens → Derives tokens m → P
 
 -- The tokens derive a module that breaks no rule; the typed form has its design, and a machine can be made of it and of the
 -- order.

@@ -7,13 +7,16 @@ ghost use Rattle.v_meaning.specs.Modules.{design_of};
 ghost use Rattle.v_core.specs.Cores.{design_in};
 ghost use Rattle.s_flow.specs.FirstBroken.{first_broken};
 ghost use Rattle.s_flow.specs.Front.{IsFront, IsTypedFrom, IsRead, IsReadFrom};
+ghost use Rattle.s_flow.specs.Running.{IfSpelled};
 
 use lz_base::{Fault, Rule, Stop};
 use std::alloc::Global;
 use v_core::Core;
 use v_elaborate::declared_names;
 use v_lexer::lex;
+use v_machine::typed_modules_keep_words;
 use v_parser::parse;
+use v_places::open_bits_are_read;
 use v_rules::{check, is_clocked};
 use v_small::read;
 use v_syntax::{Module, SmallModule, Tokens};
@@ -67,11 +70,13 @@ fn core_of(alloc: Global, tokens: &Tokens) -> Result<Core, Stop>
 /// The typed form of a module that breaks no rule, or the first rule that it breaks. `OutOfMemory` is the only other answer.
 pub(crate) fn judged(alloc: Global, module: &Module) -> Result<Core, Stop>
     ensures names { IfOk result (λ core. core.names ≡ names_of «module».now) }
-    ensures words { IfOk result KeepsWords }
+    ensures words { IfOk result (λ core. IfSpelled «module».now (KeepsWords core)) }
     ensures accepted { IfOk result (λ core. (first_broken «module».now ≡ None) × (design_in core ≡ design_of «module».now)) }
     ensures refused { IfFault result (λ fault. first_broken «module».now ≡ Some fault) }
 {
     kept_is_sound();
+    open_bits_are_read();
+    typed_modules_keep_words();
     let names = declared_names(alloc, module)?;
     if !is_clocked(module) {
         return Err(unsupported());

@@ -5,7 +5,7 @@ ghost use Rattle.v_core.specs.Cores.{design_in};
 ghost use Rattle.v_machine.specs.Runnable.{CanRun};
 ghost use Rattle.v_meaning.specs.Modules.{design_of};
 ghost use Rattle.s_flow.specs.FirstBroken.{first_broken};
-ghost use Rattle.s_flow.specs.Running.{IsReadyFrom, IsRunnable};
+ghost use Rattle.s_flow.specs.Running.{IfSpelled, IsReadyFrom, IsRunnable};
 
 use crate::reading::judged;
 use lz_base::Stop;
@@ -39,15 +39,17 @@ pub fn runnable(alloc: Global, bytes: &[u8]) -> Result<Prepared, Stop>
 fn runnable_of(alloc: Global, tokens: &Tokens) -> Result<Prepared, Stop>
     ensures { IsReadyFrom tokens.now.tokens tokens.now.end result }
 {
+    // Called for its clause alone: the tokens stand one behind another.
+    tokens.tokens();
     let module = parse(alloc, tokens)?;
     ready(alloc, &module)
 }
 
 // The same of a module.
-#[tactic(auto, using(crate::proofs::Running::front_runs, crate::proofs::FirstBroken::kept_parts))]
+#[tactic(auto, using(crate::proofs::FirstBroken::kept_parts))]
 fn ready(alloc: Global, module: &Module) -> Result<Prepared, Stop>
     ensures design { IfOk result (λ r. (first_broken «module».now ≡ None) × (design_in r.core ≡ design_of «module».now)) }
-    ensures runs { IfOk result (λ r. CanRun r.core r.order.items) }
+    ensures runs { IfOk result (λ r. IfSpelled «module».now (CanRun r.core r.order.items)) }
     ensures refused { IfFault result (λ fault. first_broken «module».now ≡ Some fault) }
 {
     accepted_modules_run();

@@ -1,7 +1,7 @@
 -- How the entries of a schedule take numbers of steps down.
 use Rattle.std.proofs.Common.{◌≡◌, ◌-◌, ◌<◌, ◌≤◌, ◌+◌, refl, sym, ap, ◌∙◌, subst, arith, ℕ, zero, suc, length, get_or, drop, take, add-one, List, [], ◌∷◌, true, false}
 use Rattle.std.proofs.lemmas.Bool.{eqb-true}
-use Rattle.std.specs.Prelude.{◌==◌, Option, Some, slice_get, slice_index, slice_set}
+use Rattle.std.specs.Prelude.{◌==◌, Some, slice_get, slice_index, slice_set}
 use Rattle.v_order.specs.Counting.{AreZero, HasNoStep, TakesDown, IsShort, IsShortAt, IsCounted}
 use Rattle.v_machine.specs.Walked.{are_none}
 use Rattle.v_machine.proofs.Lists.{first_of, next_at}
@@ -68,6 +68,16 @@ pub short_behind : (steps schedule left : List ℕ) (i : ℕ) → length schedul
     IsShortAt steps schedule (length schedule)
 short_behind steps schedule left i h taken some =
     (omega arith, left, whole_taken steps schedule left (taken_whole steps schedule left i h taken), subst (IsShort left) (sym (all_dropped schedule)) (not_zero left some))
+
+-- no schedule both takes all steps down and does not go on
+pub not_both : (steps schedule : List ℕ) (index : ℕ) → IsCounted steps schedule → IsShortAt steps schedule index → ⊥
+not_both steps [] zero c s = s.3 (subst AreZero (sym c.1 ∙ s.2) c.2)
+not_both steps [] (suc index) c s = omega (arith, s.0)
+not_both steps (p ∷ schedule) zero c s = subst HasNoStep (ap (λ (xs : List ℕ). slice_get xs p) (sym s.2) ∙ c.1.1) s.3
+not_both steps (p ∷ schedule) (suc index) c s =
+    let same : c.1.0 ≡ s.2.0 = cc (c.1.1, s.2.1) in
+    not_both (slice_set steps p s.2.0) schedule index (subst (λ (n : ℕ). IsCounted (slice_set steps p n) schedule) same (c.0, c.1.2, c.2))
+    (omega (arith, s.0), s.1, s.2.2, s.3)
 
 pub walked_on : (steps schedule left : List ℕ) (i d had : ℕ) → i < length schedule → had ≡ slice_index left (get_or schedule i d) → (had ≡ 0 → ⊥) →
     TakesDown steps (take i schedule) left → TakesDown steps (take (i + 1) schedule) (slice_set left (get_or schedule i d) (had - 1))

@@ -45,7 +45,7 @@ added_as true count e bits m = record {
 }
 added_as false (Some count) e bits m = record {
   view = record m.view { store = with_words (words_from (replicate count e.width) bits) m.view.store };
-  shape = record m.shape { memories = m.shape.memories ++ e.width ∷ [] };
+  shape = record m.shape { memories = m.shape.memories ++ e.width ∷ []; counts = m.shape.counts ++ count ∷ [] };
 }
 added_as false None e bits m = m
 

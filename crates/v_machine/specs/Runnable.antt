@@ -1,10 +1,10 @@
 -- Modules that a machine can be made of.
-use Rattle.std.specs.Prelude.{◌≡◌, ℕ, ◌^◌, ◌+◌, ◌==◌, List, [], ◌∷◌, map, Bool, true, ◌&&◌, if◌then◌else◌, nat_lt, slice_index}
+use Rattle.std.specs.Prelude.{◌≡◌, ℕ, ◌^◌, ◌+◌, ◌==◌, List, [], ◌∷◌, ◌++◌, map, Bool, true, ◌&&◌, if◌then◌else◌, nat_lt, slice_index}
 use Rattle.std.specs.List.{list_all}
 use Rattle.lz_base.specs.declared.name.Port.{Port}
 use Rattle.v_meaning.specs.Declarations.{is_input, is_settled, is_variable, is_memory}
 use Rattle.v_meaning.specs.declared.names.Kind.{Kind}
-use Rattle.v_meaning.specs.declared.names.Kind.TheVariants.{Parameter}
+use Rattle.v_meaning.specs.declared.names.Kind.TheVariants.{Parameter, Memory}
 use Rattle.v_meaning.specs.declared.names.Entry.{Entry}
 use Rattle.v_core.specs.SitedCores.{is_sited_core}
 use Rattle.v_core.specs.declared.modules.TypedAssign.{TypedAssign}
@@ -27,12 +27,22 @@ abbrev pub widths_where : (Kind → Bool) → List Entry → List ℕ
 widths_where test [] = []
 widths_where test (e ∷ names) = if test e.kind then e.width ∷ widths_where test names else widths_where test names
 
+-- how many words a memory has, and each of those among names in their order
+abbrev pub count_of_kind : Kind → List ℕ
+count_of_kind (Memory n low count) = count ∷ []
+count_of_kind _ = []
+
+abbrev pub memory_counts : List Entry → List ℕ
+memory_counts [] = []
+memory_counts (e ∷ names) = count_of_kind e.kind ++ memory_counts names
+
 abbrev pub shape_of : Core → Shape
 shape_of c = record {
   inputs = widths_where is_input c.names;
   nets = widths_where is_settled c.names;
   variables = widths_where is_variable c.names;
   memories = widths_where is_memory c.names;
+  counts = memory_counts c.names;
   sites = (design_in c).sites;
 }
 

@@ -21,4 +21,4 @@ mod settling;
 
 pub use executing::execute;
 pub use law::{accepted_modules_run, numbered_names_fit, typed_modules_keep_words};
-pub use machine::Machine;
+pub use machine::{Incomplete, Machine};

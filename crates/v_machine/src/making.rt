@@ -9,7 +9,7 @@ ghost use Rattle.v_core.specs.Cores.{design_in};
 ghost use Rattle.v_core.specs.Formed.{is_width};
 ghost use Rattle.v_values.specs.Seen.{widths_of};
 ghost use Rattle.v_machine.specs.Firsts.{added, bits_of, count_in, first_value, is_in, open_bits};
-ghost use Rattle.v_machine.specs.Runnable.{is_word, shape_of, widths_where};
+ghost use Rattle.v_machine.specs.Runnable.{is_word, memory_counts, shape_of, widths_where};
 
 use lz_base::{OutOfMemory, Word};
 use std::alloc::Global;
@@ -150,9 +150,9 @@ fn add_all(
     requires words { list_all is_word names.now ≡ true }
     requires many { length first.now ≡ total (map open_bits_of (firsts_among names.now)) }
     requires empty { now.old.view.store ≡ record { variables = []; memories = [] } }
-    requires bare { (now.old.shape.variables ≡ []) × (now.old.shape.memories ≡ []) }
+    requires bare { (now.old.shape.variables ≡ []) × (now.old.shape.memories ≡ []) × (now.old.shape.counts ≡ []) }
     ensures store { OnOk result (now.new.view.store ≡ first_store (firsts_among names.now) first.now) }
-    ensures shape { OnOk result (now.new.shape ≡ record now.old.shape { variables = widths_where kinds.is_variable names.now; memories = widths_where kinds.is_memory names.now }) }
+    ensures shape { OnOk result (now.new.shape ≡ record now.old.shape { variables = widths_where kinds.is_variable names.now; memories = widths_where kinds.is_memory names.now; counts = memory_counts names.now }) }
 {
     let mut left = first;
     for entry in names {

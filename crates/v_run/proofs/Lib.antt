@@ -1,4 +1,4 @@
 pub mod Bits
-pub mod OneTrace
 pub mod Ports
-pub mod Turns
+pub mod Reached
+pub mod Words

@@ -1,21 +1,17 @@
 -- How many bits the words at the ports of a module have.
-use Rattle.std.proofs.Common.{◌≡◌, ◌≤◌, ◌∙◌, ap, refl, arith, ℕ, zero, suc, List, [], ◌∷◌, map, Bool, true, false, ◌&&◌}
+use Rattle.std.proofs.Common.{◌≡◌, ◌≤◌, refl, arith, ℕ, zero, suc, List, [], ◌∷◌, Bool, true, false, ◌&&◌}
 use Rattle.std.specs.Prelude.{if◌then◌else◌, nat_le}
 use Rattle.std.specs.List.{list_all}
 use Rattle.std.proofs.lemmas.Bool.{leb-true}
-use Rattle.lz_base.specs.WordValue.{WordValue}
 use Rattle.t_trace.specs.Widths.{AreWidths}
 use Rattle.v_meaning.specs.Declarations.{is_input}
-use Rattle.v_meaning.specs.Modules.{inputs_among, port_of}
+use Rattle.v_meaning.specs.Modules.{inputs_among}
 use Rattle.v_meaning.specs.declared.names.Kind.{Kind}
 use Rattle.v_meaning.specs.declared.names.Kind.TheVariants as k
 use Rattle.v_meaning.specs.declared.names.Entry.{Entry}
-use Rattle.v_core.specs.Cores.{design_in}
-use Rattle.v_core.specs.declared.modules.Core.{Core}
 use Rattle.v_core.specs.Values.{entry_at}
 use Rattle.v_core.specs.Formed.{is_width}
 use Rattle.v_machine.specs.Runnable.{is_word, port_widths}
-use Rattle.v_values.specs.Seen.{widths_of}
 
 of_kind : (kind : Kind) (e : Entry) (names : List Entry) →
     port_widths (inputs_among (record e { kind = kind } ∷ names)) ≡ (if is_input kind then e.width ∷ port_widths (inputs_among names) else port_widths (inputs_among names))
@@ -31,15 +27,6 @@ of_kind (k.Memory n low count) e names = refl
 pub inputs_next : (e : Entry) (names : List Entry) →
     port_widths (inputs_among (e ∷ names)) ≡ (if is_input e.kind then e.width ∷ port_widths (inputs_among names) else port_widths (inputs_among names))
 inputs_next e names = of_kind e.kind e names
-
-outputs_are : (names : List Entry) (outputs : List ℕ) → map (λ (n : ℕ). (entry_at names n).width) outputs ≡ port_widths (map (λ (n : ℕ). port_of (entry_at names n)) outputs)
-outputs_are names [] = refl
-outputs_are names (n ∷ ns) = ap (λ (ws : List ℕ). (entry_at names n).width ∷ ws) (outputs_are names ns)
-
--- words that are as wide as the names of the outputs
-pub output_words : (c : Core) (names : List Entry) (outputs : List ℕ) (words : List WordValue) → names ≡ c.names → outputs ≡ c.outputs → widths_of words ≡ map (λ (n : ℕ). (entry_at names n).width) outputs →
-    widths_of words ≡ port_widths (design_in c).outputs
-output_words c names outputs words named shown is = is ∙ (λ j. map (λ (n : ℕ). (entry_at (named j) n).width) (shown j)) ∙ outputs_are c.names c.outputs
 
 -- ---- words
 

@@ -2,6 +2,7 @@ ghost use Rattle.std.specs.Prelude.{◌≡◌, ◌≤◌, ◌+◌, ◌^◌, [], 
 ghost use Rattle.v_meaning.specs.Designs.{cycle_bits, first_bits, open_bits_of, total};
 ghost use Rattle.v_meaning.specs.Modules.{firsts_among};
 ghost use Rattle.v_core.specs.Cores.{design_in};
+ghost use Rattle.v_run.specs.Inputs.{process_count};
 
 use lz_base::OutOfMemory;
 use v_core::Core;
@@ -58,4 +59,22 @@ pub fn cycle_bits(core: &Core) -> Result<u64, OutOfMemory>
         bits = add(bits, u64::from(site.width))?;
     }
     Ok(bits)
+}
+
+/// How many processes the schedules of a module name: those that are clocked, which are numbered from 0 in text order.
+/// `OutOfMemory` comes exactly where they are 2^32 or more, so that an entry cannot name each. It takes no memory.
+pub fn process_count(core: &Core) -> Result<u32, OutOfMemory>
+    ensures count { IfOk result (λ n. n ≡ process_count (design_in core.now)) }
+    ensures past { OnErr result (2 ^ 32 ≤ process_count (design_in core.now)) }
+{
+    let mut count = 0u32;
+    for process in core.processes.as_slice() {
+        if process.clocked {
+            let Some(more) = count.checked_add(1) else {
+                return Err(OutOfMemory);
+            };
+            count = more;
+        }
+    }
+    Ok(count)
 }

@@ -57,16 +57,13 @@ fn width_at(names: &[Entry], number: u32) -> u32
 }
 
 /// A word for each output, which has its width.
-pub(crate) fn zeros(
-    alloc: Global,
-    names: &[Entry],
-    outputs: &[u32],
-) -> Result<Vec<Word>, OutOfMemory>
-    requires { list_all is_word names.now ≡ true }
-    ensures { IfOk result (λ v. widths_of v.items ≡ map (λ n. (entry_at names.now n).width) outputs.now) }
+pub(crate) fn zeros(alloc: Global, core: &Core) -> Result<Vec<Word>, OutOfMemory>
+    requires { list_all is_word core.now.names ≡ true }
+    ensures { IfOk result (λ v. widths_of v.items ≡ port_widths (design_in core.now).outputs) }
 {
-    let mut words = Vec::with_capacity(alloc, outputs.len())?;
-    for output in outputs {
+    let names = core.names.as_slice();
+    let mut words = Vec::with_capacity(alloc, core.outputs.len())?;
+    for output in core.outputs.as_slice() {
         words.push(Word::new(width_at(names, *output), 0))?;
     }
     Ok(words)

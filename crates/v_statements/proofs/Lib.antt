@@ -9,3 +9,4 @@ pub mod OpenLaws
 pub mod Depths
 pub mod FormLaws
 pub mod SitedLaws
+pub mod ReadLaws

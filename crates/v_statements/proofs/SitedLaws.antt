@@ -32,13 +32,25 @@ sited_block body =
 abbrev sited_arm : TypedArm → SitedIn
 sited_arm = fold-TypedArm SitedIn SitedIn sited_stmt_step sited_arm_step
 
-arms_sited : (names : List Entry) (sites : List ℕ) (arms : List TypedArm) → list_all (λ (arm : SitedIn). arm names sites) (map sited_arm arms) ≡ list_all (is_sited_arm names sites) arms
+arms_sited : (names : List Entry) (sites : List ℕ) (arms : List TypedArm) → list_all (λ (arm : SitedIn). arm names sites) (map sited_arm arms) ≡ list_all (λ (a : TypedArm). is_sited_arm a names sites) arms
 arms_sited names sites [] = refl
 arms_sited names sites (a ∷ arms) = λ i.
     (fold-roll-TypedArm SitedIn SitedIn sited_stmt_step sited_arm_step (record { label = a.label; body = a.body })) i names sites && arms_sited names sites arms i
 
 pub sited_case : (subject : Typed) (arms : List TypedArm) →
-    is_sited_stmt (s.Case subject arms) ≡ (λ names sites. is_sited subject names sites && list_all (is_sited_arm names sites) arms)
+    is_sited_stmt (s.Case subject arms) ≡ (λ names sites. is_sited subject names sites && list_all (λ (a : TypedArm). is_sited_arm a names sites) arms)
 sited_case subject arms =
     ap is_sited_stmt (sym (s.rolls-Case subject arms)) ∙ fold-roll-TypedStmt SitedIn SitedIn sited_stmt_step sited_arm_step (o.Case subject arms)
     ∙ fun_ext (λ names. fun_ext (λ sites. ap (λ (b : Bool). is_sited subject names sites && b) (arms_sited names sites arms)))
+
+-- ---- items and arms
+
+abbrev all_sited : List SitedIn → SitedIn
+all_sited xs names sites = list_all (λ (x : SitedIn). x names sites) xs
+
+-- where each has the sites of another, all of them have
+pub alike : {A B : Type 0} (f : A → SitedIn) (g : B → SitedIn) (xs : List A) (ys : List B) → map f xs ≡ map g ys →
+    ◌≡◌ {A = SitedIn} (λ names sites. list_all (λ (x : A). f x names sites) xs) (λ names sites. list_all (λ (y : B). g y names sites) ys)
+alike f g xs ys p =
+    sym (fun_ext (λ names. fun_ext (λ sites. list_all-map (λ (s : SitedIn). s names sites) f xs))) ∙ ap all_sited p
+    ∙ fun_ext (λ names. fun_ext (λ sites. list_all-map (λ (s : SitedIn). s names sites) g ys))

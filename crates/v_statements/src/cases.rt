@@ -4,7 +4,10 @@ ghost use Rattle.v_core.specs.Bodies.{sense_in};
 ghost use Rattle.v_core.specs.Statements.{acts_in};
 ghost use Rattle.v_core.specs.FormedCores.{is_formed_stmt};
 ghost use Rattle.v_core.specs.OpenForms.{OpenFormed};
+ghost use Rattle.v_core.specs.Sited.{is_sited_body};
+ghost use Rattle.v_core.specs.SitedCores.{is_sited_stmt};
 ghost use Rattle.v_statements.specs.Forms.{ArmFormed, Each, arm_form, open_arm_form};
+ghost use Rattle.v_statements.specs.Sited.{are_sited_open_arms, is_sited_arm, is_sited_open_arm};
 ghost use Rattle.v_statements.specs.Cases.{arm_at, case_of, comparison_among, comparison_in, open_arm, open_item, open_items, comparison_behind, senses_of, typed_arm};
 
 use crate::items::{Common, OpenItem, OpenLabel, fixed_label};
@@ -71,6 +74,7 @@ fn fixed_arm(alloc: Global, arm: OpenArm, by: Common) -> Result<TypedArm, OutOfM
     requires within { by.width ≤ 128 }
     ensures value { IfOk result (λ t. (names : List Entry) → typed_arm names t ≡ arm_at (comparison_in by) (open_arm names arm)) }
     ensures form { IfOk result (λ t. (names : List Entry) → arm_form names t ≡ open_arm_form names by arm) }
+    ensures sited { IfOk result (λ t. is_sited_arm t ≡ is_sited_open_arm arm) }
 {
     let label = fixed_label(alloc, arm.label, by)?;
     Ok(TypedArm {
@@ -88,6 +92,7 @@ fn fixed_arms(
     requires within { by.width ≤ 128 }
     ensures value { IfOk result (λ t. (names : List Entry) → map (typed_arm names) t ≡ map (arm_at (comparison_in by)) (map (open_arm names) arms)) }
     ensures form { IfOk result (λ t. (names : List Entry) → map (arm_form names) t ≡ map (open_arm_form names by) arms) }
+    ensures sited { IfOk result (λ t. map is_sited_arm t ≡ map is_sited_open_arm arms) }
 {
     let mut left = arms;
     let mut fixed = Vec::new(alloc);
@@ -107,6 +112,7 @@ pub fn compared(
 ) -> Result<TypedStmt, OutOfMemory>
     ensures value { IfOk result (λ t. (names : List Entry) → acts_in t names ≡ case_of (sense_in subject names) (map (open_arm names) arms)) }
     ensures form { IfOk result (λ t. (names : List Entry) → OpenFormed subject names → Each (ArmFormed names) arms → is_formed_stmt t names ≡ true) }
+    ensures sited { IfOk result (λ t. is_sited_stmt t ≡ (λ names sites. is_sited_body subject.body names sites && are_sited_open_arms arms names sites)) }
 {
     let by = common(&subject, arms.as_slice());
     // No sound expression has more bits.

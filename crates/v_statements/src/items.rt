@@ -1,4 +1,4 @@
-ghost use Rattle.std.specs.Prelude.{◌≡◌, ◌≤◌, true, false, map, IfOk, List};
+ghost use Rattle.std.specs.Prelude.{◌≡◌, ◌≤◌, ℕ, true, false, map, IfOk, List};
 ghost use Rattle.std.specs.Option.{option_copied};
 ghost use Rattle.v_meaning.specs.Literals.{is_wrong_number, literal_of};
 ghost use Rattle.v_meaning.specs.Expressions.{number_by_itself};
@@ -6,8 +6,10 @@ ghost use Rattle.v_meaning.specs.Proper.{is_sound};
 ghost use Rattle.v_meaning.specs.Statements.{ignored, label_items};
 ghost use Rattle.v_meaning.specs.declared.names.Entry.{Entry};
 ghost use Rattle.v_core.specs.Statements.{items_in};
+ghost use Rattle.v_typing.specs.Sited.{AllRead, IsRead};
 ghost use Rattle.v_typing.specs.Sound.{all_sound};
 ghost use Rattle.v_statements.specs.Forms.{Each, ItemFormed, item_form, open_item_form};
+ghost use Rattle.v_statements.specs.Sited.{LabelRead, are_sited_open_items, is_sited_item, is_sited_open_item};
 ghost use Rattle.v_statements.specs.Cases.{comparison_in, is_default, is_open_default, is_right, is_typed_default, item_at, open_item, open_items, source_item, typed_item, z_at, z_word};
 
 use lz_base::{Items, OutOfMemory, Word};
@@ -84,6 +86,7 @@ fn opened_item(
     requires sound { is_sound names.now item.now ≡ true }
     ensures value { IfOk result (λ o. open_item names.now o ≡ source_item names.now sites.now kind item.now) }
     ensures form { IfOk result (λ o. ItemFormed names.now o) }
+    ensures sited { IfOk result (λ o. (widths : List ℕ) → IsRead widths sites.now names.now item.now → is_sited_open_item o names.now widths ≡ true) }
 {
     let z_bits = z_bits(kind, item);
     let value = opened(alloc, names, sites, item)?;
@@ -101,6 +104,7 @@ fn opened_items(
     requires sound { all_sound names.now items.now ≡ true }
     ensures value { IfOk result (λ o. map (open_item names.now) o ≡ map (source_item names.now sites.now kind) items.now) }
     ensures form { IfOk result (λ o. Each (ItemFormed names.now) o) }
+    ensures sited { IfOk result (λ o. (widths : List ℕ) → AllRead widths sites.now names.now items.now → are_sited_open_items o names.now widths ≡ true) }
 {
     let mut all = Items::new(alloc);
     for item in items {
@@ -122,6 +126,7 @@ pub fn opened_label(
     ensures items { IfOk result (λ o. map (open_item names.now) (open_items o) ≡ map (source_item names.now sites.now kind) (label_items label.now)) }
     ensures default { IfOk result (λ o. is_open_default o ≡ is_default label.now) }
     ensures form { IfOk result (λ o. Each (ItemFormed names.now) (open_items o)) }
+    ensures sited { IfOk result (λ o. (widths : List ℕ) → LabelRead widths sites.now names.now label.now → are_sited_open_items (open_items o) names.now widths ≡ true) }
 {
     match label {
         Label::Items(items) => {
@@ -149,6 +154,7 @@ fn fixed_item(alloc: Global, item: OpenItem, by: Common) -> Result<TypedItem, Ou
     requires within { by.width ≤ 128 }
     ensures value { IfOk result (λ t. (names : List Entry) → typed_item names t ≡ item_at (comparison_in by) (open_item names item)) }
     ensures form { IfOk result (λ t. (names : List Entry) → item_form names t ≡ open_item_form names by item) }
+    ensures sited { IfOk result (λ t. is_sited_item t ≡ is_sited_open_item item) }
 {
     let ignored = ignored(item.z_bits, by);
     let value = fix(alloc, item.value.body, by.width, by.signed)?;
@@ -164,6 +170,7 @@ fn fixed_items(
     requires within { by.width ≤ 128 }
     ensures value { IfOk result (λ t. (names : List Entry) → map (typed_item names) t ≡ map (item_at (comparison_in by)) (map (open_item names) items)) }
     ensures form { IfOk result (λ t. (names : List Entry) → map (item_form names) t ≡ map (open_item_form names by) items) }
+    ensures sited { IfOk result (λ t. map is_sited_item t ≡ map is_sited_open_item items) }
 {
     let mut left = items;
     let mut fixed = Vec::new(alloc);
@@ -181,6 +188,7 @@ pub fn fixed_label(alloc: Global, label: OpenLabel, by: Common) -> Result<TypedL
     ensures items { IfOk result (λ t. (names : List Entry) → map (typed_item names) (items_in t) ≡ map (item_at (comparison_in by)) (map (open_item names) (open_items label))) }
     ensures default { IfOk result (λ t. is_typed_default t ≡ is_open_default label) }
     ensures form { IfOk result (λ t. (names : List Entry) → map (item_form names) (items_in t) ≡ map (open_item_form names by) (open_items label)) }
+    ensures sited { IfOk result (λ t. map is_sited_item (items_in t) ≡ map is_sited_open_item (open_items label)) }
 {
     match label {
         OpenLabel::Items(items) => {

@@ -2,6 +2,7 @@ ghost use Rattle.std.specs.Prelude.{◌≡◌, ◌+◌, ◌==◌, ◌&&◌, if�
 ghost use Rattle.std.specs.List.{list_all};
 ghost use Rattle.v_meaning.specs.Acts.{End, Branch, sequence};
 ghost use Rattle.v_meaning.specs.Statements.{assign_acts};
+ghost use Rattle.v_core.specs.declared.statement.TypedArm.{TypedArm};
 ghost use Rattle.v_core.specs.declared.statement.TypedStmt.{TypedStmt};
 ghost use Rattle.v_core.specs.declared.statement.TypedTarget.{TypedTarget};
 ghost use Rattle.v_core.specs.Values.{entry_at, typed_value};
@@ -100,7 +101,7 @@ pub fn branched(
 pub fn chosen(subject: Typed, arms: Items<TypedArm>) -> TypedStmt
     ensures value { acts_in result ≡ (λ names. chosen_acts (typed_value subject names) (map (typed_arm names) arms)) }
     ensures form { is_formed_stmt result ≡ (λ names. (formed subject names).kept && list_all (is_formed_arm (formed subject names).width names) arms) }
-    ensures sited { is_sited_stmt result ≡ (λ names sites. is_sited subject names sites && list_all (is_sited_arm names sites) arms) }
+    ensures sited { is_sited_stmt result ≡ (λ names sites. is_sited subject names sites && list_all (λ (a : TypedArm). is_sited_arm a names sites) arms) }
 {
     TypedStmt::Case { subject, arms }
 }

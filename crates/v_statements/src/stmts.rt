@@ -1,4 +1,4 @@
-ghost use Rattle.std.specs.Prelude.{◌≡◌, ℕ, List, true, map, IfOk};
+ghost use Rattle.std.specs.Prelude.{◌≡◌, ℕ, List, All, true, map, IfOk};
 ghost use Rattle.std.specs.List.{list_all};
 ghost use Rattle.v_meaning.specs.Senses.{own};
 ghost use Rattle.v_meaning.specs.Expressions.{sense_of};
@@ -12,6 +12,8 @@ ghost use Rattle.v_core.specs.Formed.{formed};
 ghost use Rattle.v_core.specs.FormedCores.{is_formed_stmt};
 ghost use Rattle.v_statements.specs.Forms.{ArmFormed, Each};
 ghost use Rattle.v_core.specs.Sited.{is_sited};
+ghost use Rattle.v_core.specs.SitedCores.{is_sited_stmt};
+ghost use Rattle.v_statements.specs.Sited.{ArmRead, StmtRead, TargetRead, are_sited_open_arms};
 ghost use Rattle.v_typing.specs.Sited.{IsRead};
 ghost use Rattle.v_typing.specs.Sound.{is_sound_stmt, is_sound_target};
 ghost use Rattle.v_statements.specs.Sound.{is_sound_arm};
@@ -54,6 +56,7 @@ fn assignment(
     requires value { is_sound names.now value.now ≡ true }
     ensures value { IfOk result (λ t. acts_in t names.now ≡ assign_acts kind (writes_of (target_of names.now sites.now target.now) (sense_of names.now sites.now value.now))) }
     ensures form { IfOk result (λ t. is_formed_stmt t names.now ≡ true) }
+    ensures sited { IfOk result (λ t. (widths : List ℕ) → TargetRead widths sites.now names.now target.now → IsRead widths sites.now names.now value.now → is_sited_stmt t names.now widths ≡ true) }
 {
     let target = measured(alloc, names, sites, target)?;
     let value = opened(alloc, names, sites, value)?;
@@ -64,8 +67,9 @@ fn assignment(
 }
 
 /// A statement, with each width and extension of its expressions and targets written out, that has the same acts (IEEE Std
-/// 1364-2005, 9). Its expressions are sound, and its targets have 1 to 128 bits. `OutOfMemory` is the only other answer.
-/// The work is linear in the statement, but for the look-ups of names.
+/// 1364-2005, 9). Its expressions are sound, and its targets have 1 to 128 bits. Where as many bits are read at its numbers
+/// and selects as are open there, no site of what it gives has more bits than what is selected. `OutOfMemory` is the only
+/// other answer. The work is linear in the statement, but for the look-ups of names.
 #[cycle(statements)]
 pub fn statement(
     alloc: Global,
@@ -76,6 +80,7 @@ pub fn statement(
     requires sound { is_sound_stmt names.now s.now ≡ true }
     ensures value { IfOk result (λ t. acts_in t names.now ≡ acts_of names.now sites.now s.now) }
     ensures form { IfOk result (λ t. is_formed_stmt t names.now ≡ true) }
+    ensures sited { IfOk result (λ t. (widths : List ℕ) → StmtRead widths sites.now names.now s.now → is_sited_stmt t names.now widths ≡ true) }
 {
     match s {
         Stmt::Null => Ok(nothing()),
@@ -128,6 +133,7 @@ fn each(
     requires sound { list_all (is_sound_stmt names.now) body.now ≡ true }
     ensures value { IfOk result (λ t. body_acts t names.now ≡ map (acts_of names.now sites.now) body.now) }
     ensures form { IfOk result (λ t. list_all (λ (x : TypedStmt). is_formed_stmt x names.now) t ≡ true) }
+    ensures sited { IfOk result (λ t. (widths : List ℕ) → All (StmtRead widths sites.now names.now) body.now → list_all (λ (x : TypedStmt). is_sited_stmt x names.now widths) t ≡ true) }
 {
     let mut all = Items::new(alloc);
     for s in body {
@@ -149,6 +155,7 @@ fn opened_arms(
     requires sound { list_all (is_sound_arm names.now) arms.now ≡ true }
     ensures value { IfOk result (λ o. map (open_arm names.now) o ≡ map (source_arm names.now sites.now kind) arms.now) }
     ensures form { IfOk result (λ o. Each (ArmFormed names.now) o) }
+    ensures sited { IfOk result (λ o. (widths : List ℕ) → All (ArmRead widths sites.now names.now) arms.now → are_sited_open_arms o names.now widths ≡ true) }
 {
     let mut all = Items::new(alloc);
     for arm in arms {

@@ -1,12 +1,15 @@
-ghost use Rattle.std.specs.Prelude.{◌≡◌, ◌≤◌, ◌<◌, ◌+◌, if◌then◌else◌, true, map, IfOk};
+ghost use Rattle.std.specs.Prelude.{◌≡◌, ◌≤◌, ◌<◌, ◌+◌, ℕ, List, All, if◌then◌else◌, true, map, IfOk};
 ghost use Rattle.v_meaning.specs.Senses.{index_of};
 ghost use Rattle.v_meaning.specs.Names.{entry_of, or_zero};
 ghost use Rattle.v_meaning.specs.Proper.{is_part, proper_value};
 ghost use Rattle.v_meaning.specs.Targets.{whole_target, selected_target, part_target, target_of, parts_width};
 ghost use Rattle.v_core.specs.Bodies.{sense_in};
 ghost use Rattle.v_core.specs.OpenForms.{OpenFormed};
+ghost use Rattle.v_core.specs.Sited.{is_sited_body};
+ghost use Rattle.v_core.specs.SitedCores.{is_sited_target};
 ghost use Rattle.v_typing.specs.Sound.{is_sound_target, targets_sound};
 ghost use Rattle.v_statements.specs.Measured.{IsTarget, is_memory, joined_target};
+ghost use Rattle.v_statements.specs.Sited.{TargetRead};
 
 use crate::making;
 use lz_base::{Items, OutOfMemory};
@@ -26,7 +29,8 @@ pub struct MeasuredTarget {
 
 // All bits of a variable.
 fn whole(names: &Names, ident: &Ident) -> MeasuredTarget
-    ensures { IsTarget names.now result (whole_target (entry_of names.now ident.now.name)) }
+    ensures target { IsTarget names.now result (whole_target (entry_of names.now ident.now.name)) }
+    ensures sited { is_sited_target result.target ≡ (λ names sites. true) }
 {
     let known = names.known(&ident.name);
     let width = known.width;
@@ -53,7 +57,8 @@ fn selected(
     index: Open,
 ) -> Result<MeasuredTarget, OutOfMemory>
     requires index { OpenFormed index names.now }
-    ensures { IfOk result (λ t. IsTarget names.now t (selected_target (entry_of names.now ident.now.name).kind (entry_of names.now ident.now.name) (index_of (sense_in index names.now)))) }
+    ensures target { IfOk result (λ t. IsTarget names.now t (selected_target (entry_of names.now ident.now.name).kind (entry_of names.now ident.now.name) (index_of (sense_in index names.now)))) }
+    ensures sited { IfOk result (λ t. is_sited_target t.target ≡ is_sited_body index.body) }
 {
     let known = names.known(&ident.name);
     let index_width = index.width;
@@ -69,7 +74,8 @@ fn part(names: &Names, ident: &Ident, msb: u128, lsb: u128) -> MeasuredTarget
     requires above { (entry_of names.now ident.now.name).low ≤ lsb }
     requires descends { lsb ≤ msb }
     requires within { msb < (entry_of names.now ident.now.name).low + (entry_of names.now ident.now.name).width }
-    ensures { IsTarget names.now result (part_target (entry_of names.now ident.now.name) msb lsb) }
+    ensures target { IsTarget names.now result (part_target (entry_of names.now ident.now.name) msb lsb) }
+    ensures sited { is_sited_target result.target ≡ (λ names sites. true) }
 {
     let known = names.known(&ident.name);
     let width = span(msb, lsb);
@@ -87,7 +93,8 @@ fn bounded(
     lsb: &Expr,
 ) -> Result<MeasuredTarget, OutOfMemory>
     requires sound { is_part (entry_of names.now ident.now.name) (proper_value names.now msb.now) (proper_value names.now lsb.now) ≡ true }
-    ensures { IfOk result (λ t. IsTarget names.now t (part_target (entry_of names.now ident.now.name) (or_zero (proper_value names.now msb.now)) (or_zero (proper_value names.now lsb.now)))) }
+    ensures target { IfOk result (λ t. IsTarget names.now t (part_target (entry_of names.now ident.now.name) (or_zero (proper_value names.now msb.now)) (or_zero (proper_value names.now lsb.now)))) }
+    ensures sited { IfOk result (λ t. is_sited_target t.target ≡ (λ names sites. true)) }
 {
     let m = bound(alloc, names, msb)?;
     let l = bound(alloc, names, lsb)?;
@@ -103,7 +110,8 @@ pub fn measured(
     target: &Target,
 ) -> Result<MeasuredTarget, OutOfMemory>
     requires sound { is_sound_target names.now target.now ≡ true }
-    ensures { IfOk result (λ t. IsTarget names.now t (target_of names.now sites.now target.now)) }
+    ensures target { IfOk result (λ t. IsTarget names.now t (target_of names.now sites.now target.now)) }
+    ensures sited { IfOk result (λ t. (widths : List ℕ) → TargetRead widths sites.now names.now target.now → is_sited_target t.target names.now widths ≡ true) }
 {
     match target {
         Target::Name(name) => Ok(whole(names, name)),
@@ -142,7 +150,8 @@ fn joined(
     requires sound { targets_sound names.now parts.now ≡ true }
     requires some { 1 ≤ parts_width (map (target_of names.now sites.now) parts.now) }
     requires narrow { parts_width (map (target_of names.now sites.now) parts.now) ≤ 128 }
-    ensures { IfOk result (λ t. IsTarget names.now t (joined_target (map (target_of names.now sites.now) parts.now))) }
+    ensures target { IfOk result (λ t. IsTarget names.now t (joined_target (map (target_of names.now sites.now) parts.now))) }
+    ensures sited { IfOk result (λ t. (widths : List ℕ) → All (TargetRead widths sites.now names.now) parts.now → is_sited_target t.target names.now widths ≡ true) }
 {
     let mut width = 0u32;
     let mut typed = Items::new(alloc);

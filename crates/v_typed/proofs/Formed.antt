@@ -6,12 +6,8 @@ use Rattle.std.proofs.lemmas.Bool.{leb-true}
 use Rattle.v_meaning.specs.declared.names.Entry.{Entry}
 use Rattle.v_core.specs.declared.typed.Typed.{Typed}
 use Rattle.v_core.specs.declared.open.Open.{Open}
-use Rattle.v_core.specs.declared.modules.TypedAssign.{TypedAssign}
-use Rattle.v_core.specs.declared.modules.TypedProcess.{TypedProcess}
 use Rattle.v_core.specs.Formed.{FormedIn, formed, has}
-use Rattle.v_core.specs.FormedCores.{is_formed_stmt}
 use Rattle.v_core.specs.OpenForms.{OpenFormed, body_form}
-use Rattle.v_typed.specs.Forms.{are_formed_assigns, are_formed_processes}
 
 pub both : {a b : Bool} → a ≡ true → b ≡ true → (a && b) ≡ true
 both p q = λ i. p i && q i
@@ -28,14 +24,9 @@ side_keeps names side t width wide p is h few =
     second ((formed t names).width == wide) (formed t names).kept
     (ap (λ (f : FormedIn). has wide (f names)) p ∙ h.at wide side.signed (omega (arith, is)) (omega (arith, is, few, word)))
 
-pub push : {X : Type 0} (test : X → Bool) (old : List X) (x : X) → test x ≡ true → list_all test (old ++ x ∷ []) ≡ list_all test old
+push : {X : Type 0} (test : X → Bool) (old : List X) (x : X) → test x ≡ true → list_all test (old ++ x ∷ []) ≡ list_all test old
 push test [] x h = both h refl
 push test (y ∷ ys) x h = ap (λ (b : Bool). test y && b) (push test ys x h)
 
-pub assign_pushed : (names : List Entry) (old new : List TypedAssign) (a : TypedAssign) → new ≡ old ++ a ∷ [] → (formed a.value names).kept ≡ true →
-    are_formed_assigns names new ≡ are_formed_assigns names old
-assign_pushed names old new a p h = ap (are_formed_assigns names) p ∙ push (λ (a : TypedAssign). (formed a.value names).kept) old a h
-
-pub process_pushed : (names : List Entry) (old new : List TypedProcess) (p : TypedProcess) → new ≡ old ++ p ∷ [] → is_formed_stmt p.body names ≡ true →
-    are_formed_processes names new ≡ are_formed_processes names old
-process_pushed names old new p q h = ap (are_formed_processes names) q ∙ push (λ (p : TypedProcess). is_formed_stmt p.body names) old p h
+pub pushed : {X : Type 0} (test : X → Bool) (old new : List X) (x : X) → new ≡ old ++ x ∷ [] → test x ≡ true → list_all test new ≡ list_all test old
+pushed test old new x p h = ap (list_all test) p ∙ push test old x h

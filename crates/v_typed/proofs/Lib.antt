@@ -7,3 +7,4 @@ pub mod TypedDesigns
 pub mod Formed
 pub mod CopiedNames
 pub mod Measured
+pub mod Read

@@ -10,7 +10,7 @@ use Rattle.v_meaning.specs.Names.{entry_of, entry_or, found}
 use Rattle.v_core.specs.declared.typed.Typed.{Typed}
 use Rattle.v_core.specs.declared.modules.TypedAssign.{TypedAssign}
 use Rattle.v_typed.specs.Forms.{are_measured, is_measured_over, is_net_at}
-use Rattle.v_typed.proofs.Formed.{both, push}
+use Rattle.v_typed.proofs.Formed.{both, pushed}
 
 -- a declared net of this number and width
 abbrev is_net : ℕ → ℕ → Entry → Bool
@@ -37,6 +37,5 @@ pub measured_pushed : (names : List Entry) (name : List ℕ) (kind : Kind) (n wi
     kind ≡ (entry_of names name).kind → kind ≡ Net n → width ≡ (entry_of names name).width → 1 ≤ width → width ≤ 128 →
     new ≡ old ++ record { net = n; width = width; value = t } ∷ [] → are_measured names new ≡ are_measured names old
 measured_pushed names name kind n width t old new of_kind is wide least most more =
-    ap (are_measured names) more
-    ∙ push (is_measured_over names) old (record { net = n; width = width; value = t })
+    pushed (is_measured_over names) old new (record { net = n; width = width; value = t }) more
     (both (both (le-leb 1 width least) (le-leb width 128 most)) (net_among names name n width (sym of_kind ∙ is) wide))

@@ -1,4 +1,4 @@
-ghost use Rattle.std.specs.Prelude.{◌≡◌, ◌≤◌, ◌++◌, ◌%◌, ◌^◌, true, map, flat_map, OnOk, IfOk, max};
+ghost use Rattle.std.specs.Prelude.{◌≡◌, ◌≤◌, ◌++◌, ◌%◌, ◌^◌, ℕ, List, All, true, map, flat_map, OnOk, IfOk, max};
 ghost use Rattle.std.specs.List.{list_all};
 ghost use Rattle.v_syntax.specs.declared.module.Declared.{Declared};
 ghost use Rattle.v_syntax.specs.declared.module.Setting.{Setting};
@@ -9,7 +9,10 @@ ghost use Rattle.v_meaning.specs.Modules.{net_assign, wire_assign};
 ghost use Rattle.v_core.specs.Values.{typed_value};
 ghost use Rattle.v_core.specs.Cores.{assign_in};
 ghost use Rattle.v_core.specs.Formed.{formed};
+ghost use Rattle.v_core.specs.Sited.{is_sited};
 ghost use Rattle.v_typed.specs.Forms.{are_formed_assigns, are_measured};
+ghost use Rattle.v_typed.specs.Sited.{ValueRead, are_sited_assigns};
+ghost use Rattle.v_typing.specs.Sited.{IsRead};
 ghost use Rattle.v_typing.specs.Sound.{is_sound_value};
 
 use lz_base::{Items, OutOfMemory};
@@ -32,6 +35,7 @@ fn right_side(
     requires sound { is_sound names.now x.now ≡ true }
     ensures value { IfOk result (λ t. (λ v. typed_value t names.now v % 2 ^ width) ≡ assigned width (sense_of names.now sites.now x.now)) }
     ensures form { IfOk result (λ t. width ≤ 128 → (formed t names.now).kept ≡ true) }
+    ensures sited { IfOk result (λ t. (widths : List ℕ) → IsRead widths sites.now names.now x.now → is_sited t names.now widths ≡ true) }
 {
     let side = opened(alloc, names, sites, x)?;
     fix(alloc, side.body, width.max(side.width), side.signed)
@@ -49,6 +53,7 @@ fn add_assign(
     requires sound { is_sound names.now value.now ≡ true }
     ensures value { OnOk result (map (assign_in names.now) assigns.new ≡ map (assign_in names.now) assigns.old ++ net_assign names.now sites.now name.now value.now) }
     ensures form { OnOk result (are_formed_assigns names.now assigns.new ≡ are_formed_assigns names.now assigns.old) }
+    ensures sited { OnOk result ((widths : List ℕ) → IsRead widths sites.now names.now value.now → are_sited_assigns assigns.new names.now widths ≡ are_sited_assigns assigns.old names.now widths) }
     ensures measured { OnOk result (are_measured names.now assigns.new ≡ are_measured names.now assigns.old) }
 {
     let known = names.known(&name.name);
@@ -75,6 +80,7 @@ fn add_value(
     requires sound { is_sound_value names.now value.now ≡ true }
     ensures value { OnOk result (map (assign_in names.now) assigns.new ≡ map (assign_in names.now) assigns.old ++ wire_assign names.now sites.now name.now value.now) }
     ensures form { OnOk result (are_formed_assigns names.now assigns.new ≡ are_formed_assigns names.now assigns.old) }
+    ensures sited { OnOk result ((widths : List ℕ) → ValueRead widths sites.now names.now value.now → are_sited_assigns assigns.new names.now widths ≡ are_sited_assigns assigns.old names.now widths) }
     ensures measured { OnOk result (are_measured names.now assigns.new ≡ are_measured names.now assigns.old) }
 {
     match value {
@@ -94,6 +100,7 @@ pub(crate) fn add_wires(
     requires sound { list_all (λ (d : Declared). is_sound_value names.now d.value) wires.now ≡ true }
     ensures value { OnOk result (map (assign_in names.now) assigns.new ≡ map (assign_in names.now) assigns.old ++ flat_map (λ (d : Declared). wire_assign names.now sites.now d.name d.value) wires.now) }
     ensures form { OnOk result (are_formed_assigns names.now assigns.new ≡ are_formed_assigns names.now assigns.old) }
+    ensures sited { OnOk result ((widths : List ℕ) → All (λ (d : Declared). ValueRead widths sites.now names.now d.value) wires.now → are_sited_assigns assigns.new names.now widths ≡ are_sited_assigns assigns.old names.now widths) }
     ensures measured { OnOk result (are_measured names.now assigns.new ≡ are_measured names.now assigns.old) }
 {
     for wire in wires {
@@ -113,6 +120,7 @@ pub(crate) fn add_assigns(
     requires sound { list_all (λ (s : Setting). is_sound names.now s.value.expr) settings.now ≡ true }
     ensures value { OnOk result (map (assign_in names.now) assigns.new ≡ map (assign_in names.now) assigns.old ++ flat_map (λ (s : Setting). net_assign names.now sites.now s.name s.value.expr) settings.now) }
     ensures form { OnOk result (are_formed_assigns names.now assigns.new ≡ are_formed_assigns names.now assigns.old) }
+    ensures sited { OnOk result ((widths : List ℕ) → All (λ (s : Setting). IsRead widths sites.now names.now s.value.expr) settings.now → are_sited_assigns assigns.new names.now widths ≡ are_sited_assigns assigns.old names.now widths) }
     ensures measured { OnOk result (are_measured names.now assigns.new ≡ are_measured names.now assigns.old) }
 {
     for setting in settings {

@@ -1,4 +1,4 @@
-ghost use Rattle.std.specs.Prelude.{◌≡◌, None, Some, IfOk, true, map};
+ghost use Rattle.std.specs.Prelude.{◌≡◌, None, Some, All, IfOk, true, map};
 ghost use Rattle.std.specs.List.{list_all};
 ghost use Rattle.lz_base.specs.Answers.{IfFault};
 ghost use Rattle.v_syntax.specs.declared.module.Module.{Module};
@@ -9,7 +9,9 @@ ghost use Rattle.v_meaning.specs.Modules.{design_of};
 ghost use Rattle.v_core.specs.Cores.{design_in};
 ghost use Rattle.v_core.specs.Formed.{is_width};
 ghost use Rattle.v_core.specs.FormedCores.{is_formed_core};
+ghost use Rattle.v_core.specs.SitedCores.{is_sited_core};
 ghost use Rattle.v_names.specs.Words.{AreWords};
+ghost use Rattle.v_places.specs.Openings.{bits_read, module_openings};
 ghost use Rattle.v_typing.specs.Sound.{are_sound_items};
 ghost use Rattle.v_sites.specs.Found.{site_in};
 ghost use Rattle.v_typed.specs.Forms.{are_measured};
@@ -33,7 +35,9 @@ pub fn kept_is_sound()
 /// The typed form of a module that keeps the rules of declarations and expressions (E4 to E13), over its declared names; it
 /// does in each cycle what the module does (IEEE Std 1364-2005, 4, 5, 6, 9 and 12), and each expression in it has 1 to 128
 /// bits, and its operands as many as its operators take. Each name and each site has 1 to 128 bits too, and each assign as many as
-/// its net. `OutOfMemory` is the only other answer; it also comes where there are 2^32 names or sites. The work is n log n in the module.
+/// its net. Where as many bits are read at the module's numbers and selects as are open there, no site has more bits than
+/// what is selected. `OutOfMemory` is the only other answer; it also comes where there are 2^32 names or sites. The work is
+/// n log n in the module.
 pub fn typed(alloc: Global, names: &Names, module: &Module) -> Result<Core, OutOfMemory>
     requires declared { names.now ≡ names_of «module».now }
     requires kept { first_fault (places_of «module».now) typing_rules ≡ None }
@@ -44,6 +48,7 @@ pub fn typed(alloc: Global, names: &Names, module: &Module) -> Result<Core, OutO
     ensures words { IfOk result (λ core. AreWords core.names) }
     ensures measured { IfOk result (λ core. are_measured core.names core.assigns ≡ true) }
     ensures places { IfOk result (λ core. list_all is_width (design_in core).sites ≡ true) }
+    ensures sited { IfOk result (λ core. All (λ s. bits_read (module_sites names.now «module».now.items) s.at ≡ s.width) (module_openings names.now «module».now.items) → is_sited_core core ≡ true) }
 {
     let found = sites(alloc, names, module)?;
     let places = site_places(alloc, found.as_slice())?;
@@ -63,9 +68,9 @@ pub fn typed(alloc: Global, names: &Names, module: &Module) -> Result<Core, OutO
 
 /// The typed form of a module, where it keeps the rules of declarations and expressions (E4 to E13); it does in each cycle
 /// what the module does (IEEE Std 1364-2005, 4, 5, 6, 9 and 12). Its names are the declared names in text order, and its
-/// sites, assigns and processes stand in text order too. Else the answer is the first of these rules that is broken, at
-/// its least place, which is a byte of the file. `OutOfMemory` is the only other answer; it also comes where there are
-/// 2^32 names or sites. The work is n log n in the module.
+/// sites, assigns and processes stand in text order too; it keeps to its widths and sites as that of `typed` does. Else the
+/// answer is the first of these rules that is broken, at its least place, which is a byte of the file. `OutOfMemory` is the
+/// only other answer; it also comes where there are 2^32 names or sites. The work is n log n in the module.
 pub fn elaborate(alloc: Global, module: &Module) -> Result<Core, Stop>
     ensures refused { IfFault result (λ fault. first_fault (places_of «module».now) typing_rules ≡ Some fault) }
     ensures accepted { IfOk result (λ core. (first_fault (places_of «module».now) typing_rules ≡ None) × (design_in core ≡ design_of «module».now)) }
@@ -75,6 +80,7 @@ pub fn elaborate(alloc: Global, module: &Module) -> Result<Core, Stop>
     ensures words { IfOk result (λ core. AreWords core.names) }
     ensures measured { IfOk result (λ core. are_measured core.names core.assigns ≡ true) }
     ensures places { IfOk result (λ core. list_all is_width (design_in core).sites ≡ true) }
+    ensures sited { IfOk result (λ core. All (λ s. bits_read (module_sites (names_of «module».now) «module».now.items) s.at ≡ s.width) (module_openings (names_of «module».now) «module».now.items) → is_sited_core core ≡ true) }
 {
     let names = declared_names(alloc, module)?;
     Ok(typed(alloc, &names, module)?)

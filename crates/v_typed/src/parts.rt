@@ -1,10 +1,12 @@
-ghost use Rattle.std.specs.Prelude.{◌≡◌, ◌++◌, true, not, map, flat_map, OnOk, IfOk};
+ghost use Rattle.std.specs.Prelude.{◌≡◌, ◌++◌, ℕ, List, All, true, not, map, flat_map, OnOk, IfOk};
 ghost use Rattle.v_syntax.specs.declared.module.Item.TheVariants as i;
 ghost use Rattle.v_meaning.specs.Modules.{item_assigns, item_clocked, item_combinational};
 ghost use Rattle.v_core.specs.Cores.{assign_in, acts_where};
 ghost use Rattle.v_typing.specs.Sound.{is_sound_stmt, is_sound_item, are_sound_items};
 ghost use Rattle.v_typed.specs.Forms.{are_formed_assigns, are_formed_processes, are_measured};
 ghost use Rattle.v_typed.specs.Processes as edges;
+ghost use Rattle.v_typed.specs.Sited.{ItemRead, are_sited_assigns, are_sited_processes};
+ghost use Rattle.v_statements.specs.Sited.{StmtRead};
 
 use crate::assigns::{add_assigns, add_wires};
 use lz_base::{Items, OutOfMemory};
@@ -44,6 +46,7 @@ fn add_process(
     ensures combinational { OnOk result (acts_where (λ p. not p.clocked) names.now processes.new ≡ acts_where (λ p. not p.clocked) names.now processes.old ++ item_combinational names.now sites.now (i.Always event.now body.now)) }
     ensures clocked { OnOk result (acts_where (λ p. p.clocked) names.now processes.new ≡ acts_where (λ p. p.clocked) names.now processes.old ++ item_clocked names.now sites.now (i.Always event.now body.now)) }
     ensures form { OnOk result (are_formed_processes names.now processes.new ≡ are_formed_processes names.now processes.old) }
+    ensures sited { OnOk result ((widths : List ℕ) → StmtRead widths sites.now names.now body.now → are_sited_processes processes.new names.now widths ≡ are_sited_processes processes.old names.now widths) }
 {
     let clocked = waits_for_edge(event);
     let body = statement(alloc, names, sites, body)?;
@@ -66,6 +69,8 @@ fn add_item(
     ensures formed_assigns { OnOk result (are_formed_assigns names.now parts.new.assigns ≡ are_formed_assigns names.now parts.old.assigns) }
     ensures measured { OnOk result (are_measured names.now parts.new.assigns ≡ are_measured names.now parts.old.assigns) }
     ensures formed_processes { OnOk result (are_formed_processes names.now parts.new.processes ≡ are_formed_processes names.now parts.old.processes) }
+    ensures sited_assigns { OnOk result ((widths : List ℕ) → ItemRead widths sites.now names.now item.now → are_sited_assigns parts.new.assigns names.now widths ≡ are_sited_assigns parts.old.assigns names.now widths) }
+    ensures sited_processes { OnOk result ((widths : List ℕ) → ItemRead widths sites.now names.now item.now → are_sited_processes parts.new.processes names.now widths ≡ are_sited_processes parts.old.processes names.now widths) }
 {
     match item {
         Item::Wires { nets, .. } => {
@@ -95,6 +100,8 @@ pub(crate) fn parts_of(
     ensures formed_assigns { IfOk result (λ parts. are_formed_assigns names.now parts.assigns ≡ true) }
     ensures measured { IfOk result (λ parts. are_measured names.now parts.assigns ≡ true) }
     ensures formed_processes { IfOk result (λ parts. are_formed_processes names.now parts.processes ≡ true) }
+    ensures sited_assigns { IfOk result (λ parts. (widths : List ℕ) → All (ItemRead widths sites.now names.now) items.now → are_sited_assigns parts.assigns names.now widths ≡ true) }
+    ensures sited_processes { IfOk result (λ parts. (widths : List ℕ) → All (ItemRead widths sites.now names.now) items.now → are_sited_processes parts.processes names.now widths ≡ true) }
 {
     let mut parts = Parts {
         assigns: Items::new(alloc),

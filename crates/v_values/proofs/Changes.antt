@@ -1,9 +1,10 @@
 -- Lists of words in which one is changed.
-use Rattle.std.proofs.Common.{◌≡◌, ◌≤◌, ◌<◌, refl, ap, sym, ◌∙◌, arith, ℕ, zero, suc, length, get_or, List, [], ◌∷◌, map}
+use Rattle.std.proofs.Common.{◌≡◌, ◌≤◌, ◌<◌, ◌+◌, refl, ap, sym, ◌∙◌, arith, ℕ, zero, suc, length, get_or, take, List, [], ◌∷◌, ◌++◌, map}
+use Rattle.std.proofs.lemmas.List.{get_or-map, length-map, take_more, take_more_set}
 use Rattle.std.specs.Prelude.{slice_set, slice_index}
 use Rattle.lz_base.specs.WordValue.{WordValue}
 use Rattle.v_meaning.specs.Views.{View, Place, Word, changed_at, written_at}
-use Rattle.v_values.specs.Moments.{MomentValue, Shape}
+use Rattle.v_values.specs.Moments.{MomentValue}
 use Rattle.v_values.specs.Seen.{values_of, widths_of}
 
 -- what a list shows, where one element becomes another
@@ -29,6 +30,22 @@ pub width_at : (ws : List WordValue) (i : ℕ) (d : WordValue) → i < length ws
 width_at [] i d h = absurd (omega arith)
 width_at (x ∷ xs) zero d h = refl
 width_at (x ∷ xs) (suc i) d h = width_at xs i d (omega arith)
+
+-- elements of two lists that show the same, and those that are copied one after another
+length_same : {A : Type 0} (g : A → ℕ) (xs ys : List A) → map g xs ≡ map g ys → length xs ≡ length ys
+length_same g xs ys same = sym (length-map xs g) ∙ ap (λ (ns : List ℕ). length ns) same ∙ length-map ys g
+
+pub same_at : {A : Type 0} (g : A → ℕ) (xs ys : List A) (i : ℕ) (d e : A) → i < length xs → map g xs ≡ map g ys → g (get_or xs i d) ≡ g (get_or ys i e)
+same_at g xs ys i d e h same =
+    sym (get_or-map g xs i d 0 h) ∙ ap (λ (ns : List ℕ). get_or ns i 0) same ∙ get_or-map g ys i e 0 (omega (arith, h, length_same g xs ys same))
+
+pub copied_next : {A : Type 0} (g : A → ℕ) (xs ys : List A) (i : ℕ) (x d : A) → i < length xs → map g xs ≡ map g ys → x ≡ get_or ys i d → take i xs ≡ take i ys →
+    take (i + 1) (slice_set xs i x) ≡ take (i + 1) ys
+copied_next g xs ys i x d h same is before =
+    take_more_set xs i x h ∙ (λ j. before j ++ is j ∷ []) ∙ sym (take_more ys i d (omega (arith, h, length_same g xs ys same)))
+
+pub copied_same : {A : Type 0} (g : A → ℕ) (xs ys : List A) (i : ℕ) (x d : A) → i < length xs → map g xs ≡ map g ys → x ≡ get_or ys i d → map g (slice_set xs i x) ≡ map g ys
+copied_same g xs ys i x d h same is = map_set_same g xs i x d h (ap g is ∙ sym (same_at g xs ys i d d h same)) ∙ same
 
 -- beyond the list nothing changes
 pub change_out : (f : ℕ → ℕ) (xs : List ℕ) (i : ℕ) → length xs ≤ i → changed_at f xs i ≡ xs
@@ -64,8 +81,8 @@ memory_written now seen place k i f ms e p q =
     ap {B = View} (λ (m : List (List ℕ)). record { inputs = seen.view.inputs; nets = seen.view.nets; store = record { variables = seen.view.store.variables; memories = m }; sites = seen.view.sites }) q
     ∙ (λ j. written_at (sym p j) f (e j).view)
 
-pub memories_shaped : (now seen : MomentValue) (ws : List ℕ) → seen ≡ now → ws ≡ seen.shape.memories →
-    record { inputs = seen.shape.inputs; nets = seen.shape.nets; variables = seen.shape.variables; memories = ws; sites = seen.shape.sites } ≡ now.shape
-memories_shaped now seen ws e q =
-    ap {B = Shape} (λ (m : List ℕ). record { inputs = seen.shape.inputs; nets = seen.shape.nets; variables = seen.shape.variables; memories = m; sites = seen.shape.sites }) q
+pub memories_shaped : (now seen : MomentValue) (ws ns : List ℕ) → seen ≡ now → ws ≡ seen.shape.memories → ns ≡ seen.shape.counts →
+    record { inputs = seen.shape.inputs; nets = seen.shape.nets; variables = seen.shape.variables; memories = ws; counts = ns; sites = seen.shape.sites } ≡ now.shape
+memories_shaped now seen ws ns e q r =
+    (λ i. record { inputs = seen.shape.inputs; nets = seen.shape.nets; variables = seen.shape.variables; memories = q i; counts = r i; sites = seen.shape.sites })
     ∙ ap (λ (m : MomentValue). m.shape) e

@@ -1,6 +1,6 @@
 -- Words that are set one after another, and the number of bits.
-use Rattle.std.proofs.Common.{◌≡◌, ◌≤◌, ◌<◌, ◌+◌, ◌*◌, ◌-◌, ap, sym, ◌∙◌, refl, arith, ℕ, zero, suc, add-one, append_assoc, length, get_or, take, drop, drop-cons, ◌++◌, List, [], ◌∷◌, map, Bool, true, false}
-use Rattle.std.specs.Prelude.{◌^◌, if◌then◌else◌, replicate, reverse, slice_index, slice_set}
+use Rattle.std.proofs.Common.{◌≡◌, ◌≤◌, ◌<◌, ◌+◌, ◌*◌, ap, sym, ◌∙◌, arith, ℕ, append_assoc, length, get_or, take, drop, ◌++◌, List, [], ◌∷◌, Bool, true, false}
+use Rattle.std.specs.Prelude.{◌^◌, if◌then◌else◌, replicate, reverse, slice_set}
 use Rattle.std.proofs.lemmas.Nat.{pow-add}
 use Rattle.std.proofs.Math.Nat.{pow-le-pow_right}
 use Rattle.std.proofs.lemmas.List.{take_more, take_more_set, reverse-append, map-set, map-append, drop-map, replicate-append-replicate}

@@ -6,12 +6,13 @@ use Rattle.v_meaning.specs.declared.names.Kind.{Kind}
 use Rattle.v_meaning.specs.declared.names.Kind.TheVariants.{Parameter, Clock, Input, Net, Combinational, Variable, Memory}
 use Rattle.v_meaning.specs.declared.names.Entry.{Entry}
 
--- how many bits each word of a view has; all words of a memory have as many
+-- how many bits each word of a view has; all words of a memory have as many, and it has so many words
 pub record Shape : Type 0 where
   pub inputs : List ℕ
   pub nets : List ℕ
   pub variables : List ℕ
   pub memories : List ℕ
+  pub counts : List ℕ
   pub sites : List ℕ
 
 pub record MomentValue : Type 0 where

@@ -1,5 +1,6 @@
-ghost use Rattle.std.specs.Prelude.{◌≡◌, ◌≤◌, ◌<◌, ◌+◌, ◌^◌, slice_index};
+ghost use Rattle.std.specs.Prelude.{◌≡◌, ◌≤◌, ◌<◌, ◌+◌, ◌^◌, length, slice_index};
 ghost use Rattle.v_meaning.specs.Views.{changed_at, with_bits};
+ghost use Rattle.v_values.specs.Seen.{all_counts, all_widths};
 
 use std::marker::Model;
 use v_words::with_part;
@@ -45,10 +46,33 @@ impl Memory {
         requires fits { value < 2 ^ width }
         ensures words { self.new.words ≡ changed_at (with_bits low width value) self.old.words number }
         ensures width { self.new.width ≡ self.old.width }
+        ensures count { length self.new.words ≡ length self.old.words }
     {
         let at = number as usize;
         if at < self.words.len() {
             self.words[at] = with_part(low, width, value, self.words[at]);
         }
+    }
+
+    // The words of another memory of as many words and bits.
+    fn copy(&mut self, other: &Memory)
+        requires width { self.old.width ≡ other.now.width }
+        requires count { length self.old.words ≡ length other.now.words }
+        ensures { self.new ≡ other.now }
+    {
+        self.words
+            .as_mut_slice()
+            .copy_from_slice(other.words.as_slice());
+    }
+}
+
+// The words of as many other memories, each of as many words and bits.
+pub fn copy_all(to: &mut [Memory], from: &[Memory])
+    requires widths { all_widths to.old ≡ all_widths from.now }
+    requires counts { all_counts to.old ≡ all_counts from.now }
+    ensures { to.new ≡ from.now }
+{
+    for i in 0..to.len() {
+        to[i].copy(&from[i]);
     }
 }

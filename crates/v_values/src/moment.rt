@@ -6,7 +6,7 @@ ghost use Rattle.v_values.specs.Writes.{write_fits, write_in};
 ghost use Rattle.v_values.specs.Moments.{has_width};
 ghost use Rattle.v_values.specs.Seen.{values_of, widths_of};
 
-use crate::memory::Memory;
+use crate::memory::{Memory, copy_all};
 use crate::setting::{clear, put_bits, replace};
 use crate::writing::{Place, Write, put};
 use lz_base::Word;
@@ -26,11 +26,11 @@ pub struct Moment {
 
 impl Model for Moment {
     ghost use Rattle.v_values.specs.Moments.{MomentValue};
-    ghost use Rattle.v_values.specs.Seen.{values_of, widths_of, all_words, all_widths};
+    ghost use Rattle.v_values.specs.Seen.{values_of, widths_of, all_words, all_widths, all_counts};
 
     ghost Value = { MomentValue };
 
-    ghost view = { λ m. record { view = record { inputs = values_of m.inputs.items; nets = values_of m.nets.items; store = record { variables = values_of m.variables.items; memories = all_words m.memories.items }; sites = values_of m.sites.items }; shape = record { inputs = widths_of m.inputs.items; nets = widths_of m.nets.items; variables = widths_of m.variables.items; memories = all_widths m.memories.items; sites = widths_of m.sites.items } } };
+    ghost view = { λ m. record { view = record { inputs = values_of m.inputs.items; nets = values_of m.nets.items; store = record { variables = values_of m.variables.items; memories = all_words m.memories.items }; sites = values_of m.sites.items }; shape = record { inputs = widths_of m.inputs.items; nets = widths_of m.nets.items; variables = widths_of m.variables.items; memories = all_widths m.memories.items; counts = all_counts m.memories.items; sites = widths_of m.sites.items } } };
 }
 
 // The word of a number; 0 where there are not so many.
@@ -111,6 +111,18 @@ impl Moment {
                 }
             }
         }
+    }
+
+    /// Sets the variables and memories to those of another moment.
+    pub fn copy_store(&mut self, other: &Moment)
+        requires shape { self.old.shape ≡ other.now.shape }
+        ensures view { self.new.view ≡ record self.old.view { store = other.now.view.store } }
+        ensures shape { self.new.shape ≡ self.old.shape }
+    {
+        self.variables
+            .as_mut_slice()
+            .copy_from_slice(other.variables.as_slice());
+        copy_all(self.memories.as_mut_slice(), other.memories.as_slice());
     }
 
     /// Sets the words of the inputs.

@@ -50,6 +50,14 @@ impl Queue {
         self.writes.push_reserved(write);
     }
 
+    /// Takes all writes off without doing them.
+    pub fn clear(&mut self)
+        ensures writes { self.new.writes ≡ [] }
+        ensures room { self.new.room ≡ self.old.room }
+    {
+        self.writes.clear();
+    }
+
     /// Does the writes from the one of a number on, one after another, and takes them off (9.2).
     pub fn apply_from(&mut self, first: usize, now: &mut Moment)
         requires within { first ≤ length self.old.writes }

@@ -2,12 +2,13 @@ use Rattle.std.proofs.Common.{◌≡◌, List, ℕ, Option, None, Some, true, fa
 use Rattle.lz_lines.specs.Forms.{Anything, Breaks, Done, Nothing, Takes}
 use Rattle.lz_lines.proofs.Forms.{After, after_breaks, after_line, after_start, after_takes, done_takes, line_broken}
 use Rattle.lz_lines.proofs.Places.{end_breaks}
+use Rattle.lz_lines.specs.Sections.{end_line}
 use Rattle.g_net.specs.Network.{NetworkValue}
 use Rattle.g_text.specs.declared.line.Key.{Key}
 use Rattle.g_text.specs.declared.line.Line.{Line}
 use Rattle.g_text.specs.Grammar.{IsLine, IsNext, MayEnd, Rest}
 use Rattle.g_text.specs.Keys.{keys_of}
-use Rattle.g_text.specs.Raw.{bare, end_line, with_line}
+use Rattle.g_text.specs.Raw.{bare, with_line}
 use Rattle.lz_lines.proofs.Standing.{hand_broken, hand_on}
 use Rattle.g_text.proofs.Standing.{lines_some, next_less, next_line}
 use Rattle.g_text.proofs.raw_reading.read_lines.Goals as goal

@@ -1,26 +1,27 @@
 use Rattle.std.proofs.Common.{◌≡◌, ◌+◌, arith}
 use Rattle.g_net.specs.Network.{node_count}
 use Rattle.g_text.specs.Parts.{parts_value}
-use Rattle.g_text.proofs.Faulting.{begun_at, rooms, at_flips, at_gates, at_outputs, none_there, fault_inputs, fault_flips, fault_gates, fault_outputs}
+use Rattle.lz_lines.proofs.Faulting.{begun_at, at_flops, at_cells, at_outputs, none_there, fault_inputs, fault_flops, fault_cells, fault_outputs}
+use Rattle.g_text.proofs.Faulting.{judged, room}
 use Rattle.g_text.proofs.references.judge.Goals as goal
 
 pub returns-in_err-at-2-clause-fault : goal.returns-in_err-at-2-clause-fault
 returns-in_err-at-2-clause-fault c =
     let n = parts_value c.args.parts in
-    fault_inputs n c.from_residual-in_err-at-2.result c.in_err-at-2.field-0.0 c.in_ok-at.at c.from_residual-in_err-at-2.ensures.1 (begun_at n _ _ c.behind_model.ensures c.in_ok-at.ensures.place) (c.in_err-at-2.ensures.judged _ (c.in_ok-at.ensures.met c.no_names-met.ensures))
+    fault_inputs (judged n) c.from_residual-in_err-at-2.result c.in_err-at-2.field-0.0 c.in_ok-at.at c.from_residual-in_err-at-2.ensures.1 (begun_at _ _ _ _ c.behind_model.ensures c.in_ok-at.ensures.place) (c.in_err-at-2.ensures.judged _ (c.in_ok-at.ensures.met c.no_names-met.ensures))
 
 pub judge_flips-requires-clause-room : goal.judge_flips-requires-clause-room
 judge_flips-requires-clause-room c =
     let n = parts_value c.args.parts in
-    let flips = at_flips n c.in_ok-at.at c.in_ok-at-2.at (begun_at n _ _ c.behind_model.ensures c.in_ok-at.ensures.place) (c.in_ok-at-2.ensures.judged _ (c.in_ok-at.ensures.met c.no_names-met.ensures)) in
-    omega (arith, flips.begins, (rooms n c.requires.room).flips)
+    let flips = at_flops (judged n) c.in_ok-at.at c.in_ok-at-2.at (begun_at _ _ _ _ c.behind_model.ensures c.in_ok-at.ensures.place) (c.in_ok-at-2.ensures.judged _ (c.in_ok-at.ensures.met c.no_names-met.ensures)) in
+    omega (arith, flips.begun, room n c.requires.room)
 
 pub returns-in_err-at-3-clause-fault : goal.returns-in_err-at-3-clause-fault
 returns-in_err-at-3-clause-fault c =
     let n = parts_value c.args.parts in
-    let flips = at_flips n c.in_ok-at.at c.in_ok-at-2.at (begun_at n _ _ c.behind_model.ensures c.in_ok-at.ensures.place) (c.in_ok-at-2.ensures.judged _ (c.in_ok-at.ensures.met c.no_names-met.ensures)) in
+    let flips = at_flops (judged n) c.in_ok-at.at c.in_ok-at-2.at (begun_at _ _ _ _ c.behind_model.ensures c.in_ok-at.ensures.place) (c.in_ok-at-2.ensures.judged _ (c.in_ok-at.ensures.met c.no_names-met.ensures)) in
     let count : c.count_front-first.result + c.count_nodes.result ≡ node_count n = omega arith in
-    fault_flips n c.from_residual-in_err-at-3.result c.in_err-at-3.field-0.0 (c.count_front-first.result + c.count_nodes.result) c.in_ok-at-2.at c.from_residual-in_err-at-3.ensures.1 count flips c.in_err-at-3.ensures
+    fault_flops (judged n) c.from_residual-in_err-at-3.result c.in_err-at-3.field-0.0 (c.count_front-first.result + c.count_nodes.result) c.in_ok-at-2.at c.from_residual-in_err-at-3.ensures.1 count flips c.in_err-at-3.ensures
 
 pub judge_gates-requires-clause-few : goal.judge_gates-requires-clause-few
 judge_gates-requires-clause-few c = omega (arith, c.count_front-first.ensures.bound, c.count_nodes.ensures.bound, c.count_nodes.ensures.count)
@@ -28,42 +29,42 @@ judge_gates-requires-clause-few c = omega (arith, c.count_front-first.ensures.bo
 pub judge_gates-requires-clause-room : goal.judge_gates-requires-clause-room
 judge_gates-requires-clause-room c =
     let n = parts_value c.args.parts in
-    let flips = at_flips n c.in_ok-at.at c.in_ok-at-2.at (begun_at n _ _ c.behind_model.ensures c.in_ok-at.ensures.place) (c.in_ok-at-2.ensures.judged _ (c.in_ok-at.ensures.met c.no_names-met.ensures)) in
+    let flips = at_flops (judged n) c.in_ok-at.at c.in_ok-at-2.at (begun_at _ _ _ _ c.behind_model.ensures c.in_ok-at.ensures.place) (c.in_ok-at-2.ensures.judged _ (c.in_ok-at.ensures.met c.no_names-met.ensures)) in
     let count : c.count_front-first.result + c.count_nodes.result ≡ node_count n = omega arith in
-    let gates = at_gates n (c.count_front-first.result + c.count_nodes.result) c.in_ok-at-2.at c.in_ok-at-3.at count flips c.in_ok-at-3.ensures in
-    omega (arith, gates.begins, (rooms n c.requires.room).gates)
+    let gates = at_cells (judged n) (c.count_front-first.result + c.count_nodes.result) c.in_ok-at-2.at c.in_ok-at-3.at count flips c.in_ok-at-3.ensures in
+    omega (arith, gates.begun, room n c.requires.room)
 
 pub returns-in_err-at-4-clause-fault : goal.returns-in_err-at-4-clause-fault
 returns-in_err-at-4-clause-fault c =
     let n = parts_value c.args.parts in
-    let flips = at_flips n c.in_ok-at.at c.in_ok-at-2.at (begun_at n _ _ c.behind_model.ensures c.in_ok-at.ensures.place) (c.in_ok-at-2.ensures.judged _ (c.in_ok-at.ensures.met c.no_names-met.ensures)) in
+    let flips = at_flops (judged n) c.in_ok-at.at c.in_ok-at-2.at (begun_at _ _ _ _ c.behind_model.ensures c.in_ok-at.ensures.place) (c.in_ok-at-2.ensures.judged _ (c.in_ok-at.ensures.met c.no_names-met.ensures)) in
     let count : c.count_front-first.result + c.count_nodes.result ≡ node_count n = omega arith in
-    let gates = at_gates n (c.count_front-first.result + c.count_nodes.result) c.in_ok-at-2.at c.in_ok-at-3.at count flips c.in_ok-at-3.ensures in
-    fault_gates n c.from_residual-in_err-at-4.result c.in_err-at-4.field-0.0 c.count_front-first.result c.in_ok-at-3.at c.from_residual-in_err-at-4.ensures.1 c.count_front-first.ensures.count gates c.in_err-at-4.ensures
+    let gates = at_cells (judged n) (c.count_front-first.result + c.count_nodes.result) c.in_ok-at-2.at c.in_ok-at-3.at count flips c.in_ok-at-3.ensures in
+    fault_cells (judged n) c.from_residual-in_err-at-4.result c.in_err-at-4.field-0.0 c.count_front-first.result c.in_ok-at-3.at c.from_residual-in_err-at-4.ensures.1 c.count_front-first.ensures.count gates c.in_err-at-4.ensures
 
 pub judge_outputs-requires-clause-room : goal.judge_outputs-requires-clause-room
 judge_outputs-requires-clause-room c =
     let n = parts_value c.args.parts in
-    let flips = at_flips n c.in_ok-at.at c.in_ok-at-2.at (begun_at n _ _ c.behind_model.ensures c.in_ok-at.ensures.place) (c.in_ok-at-2.ensures.judged _ (c.in_ok-at.ensures.met c.no_names-met.ensures)) in
+    let flips = at_flops (judged n) c.in_ok-at.at c.in_ok-at-2.at (begun_at _ _ _ _ c.behind_model.ensures c.in_ok-at.ensures.place) (c.in_ok-at-2.ensures.judged _ (c.in_ok-at.ensures.met c.no_names-met.ensures)) in
     let count : c.count_front-first.result + c.count_nodes.result ≡ node_count n = omega arith in
-    let gates = at_gates n (c.count_front-first.result + c.count_nodes.result) c.in_ok-at-2.at c.in_ok-at-3.at count flips c.in_ok-at-3.ensures in
-    let outputs = at_outputs n c.count_front-first.result c.in_ok-at-3.at c.in_ok-at-4.at c.count_front-first.ensures.count gates c.in_ok-at-4.ensures in
-    omega (arith, outputs.begins, (rooms n c.requires.room).outputs)
+    let gates = at_cells (judged n) (c.count_front-first.result + c.count_nodes.result) c.in_ok-at-2.at c.in_ok-at-3.at count flips c.in_ok-at-3.ensures in
+    let outputs = at_outputs (judged n) c.count_front-first.result c.in_ok-at-3.at c.in_ok-at-4.at c.count_front-first.ensures.count gates c.in_ok-at-4.ensures in
+    omega (arith, outputs.begun, room n c.requires.room)
 
 pub returns-in_err-judge_outputs-clause-fault : goal.returns-in_err-judge_outputs-clause-fault
 returns-in_err-judge_outputs-clause-fault c =
     let n = parts_value c.args.parts in
-    let flips = at_flips n c.in_ok-at.at c.in_ok-at-2.at (begun_at n _ _ c.behind_model.ensures c.in_ok-at.ensures.place) (c.in_ok-at-2.ensures.judged _ (c.in_ok-at.ensures.met c.no_names-met.ensures)) in
+    let flips = at_flops (judged n) c.in_ok-at.at c.in_ok-at-2.at (begun_at _ _ _ _ c.behind_model.ensures c.in_ok-at.ensures.place) (c.in_ok-at-2.ensures.judged _ (c.in_ok-at.ensures.met c.no_names-met.ensures)) in
     let count : c.count_front-first.result + c.count_nodes.result ≡ node_count n = omega arith in
-    let gates = at_gates n (c.count_front-first.result + c.count_nodes.result) c.in_ok-at-2.at c.in_ok-at-3.at count flips c.in_ok-at-3.ensures in
-    let outputs = at_outputs n c.count_front-first.result c.in_ok-at-3.at c.in_ok-at-4.at c.count_front-first.ensures.count gates c.in_ok-at-4.ensures in
-    fault_outputs n c.from_residual-in_err-judge_outputs.result c.in_err-judge_outputs.field-0.0 (c.count_front-first.result + c.count_nodes.result) c.in_ok-at-4.at c.from_residual-in_err-judge_outputs.ensures.1 count outputs (c.in_err-judge_outputs.ensures _ (c.in_ok-at-2.ensures.met _ (c.in_ok-at.ensures.met c.no_names-met.ensures)))
+    let gates = at_cells (judged n) (c.count_front-first.result + c.count_nodes.result) c.in_ok-at-2.at c.in_ok-at-3.at count flips c.in_ok-at-3.ensures in
+    let outputs = at_outputs (judged n) c.count_front-first.result c.in_ok-at-3.at c.in_ok-at-4.at c.count_front-first.ensures.count gates c.in_ok-at-4.ensures in
+    fault_outputs (judged n) c.from_residual-in_err-judge_outputs.result c.in_err-judge_outputs.field-0.0 (c.count_front-first.result + c.count_nodes.result) c.in_ok-at-4.at c.from_residual-in_err-judge_outputs.ensures.1 count outputs (c.in_err-judge_outputs.ensures _ (c.in_ok-at-2.ensures.met _ (c.in_ok-at.ensures.met c.no_names-met.ensures)))
 
 pub returns-clause-right : goal.returns-clause-right
 returns-clause-right c =
     let n = parts_value c.args.parts in
-    let flips = at_flips n c.in_ok-at.at c.in_ok-at-2.at (begun_at n _ _ c.behind_model.ensures c.in_ok-at.ensures.place) (c.in_ok-at-2.ensures.judged _ (c.in_ok-at.ensures.met c.no_names-met.ensures)) in
+    let flips = at_flops (judged n) c.in_ok-at.at c.in_ok-at-2.at (begun_at _ _ _ _ c.behind_model.ensures c.in_ok-at.ensures.place) (c.in_ok-at-2.ensures.judged _ (c.in_ok-at.ensures.met c.no_names-met.ensures)) in
     let count : c.count_front-first.result + c.count_nodes.result ≡ node_count n = omega arith in
-    let gates = at_gates n (c.count_front-first.result + c.count_nodes.result) c.in_ok-at-2.at c.in_ok-at-3.at count flips c.in_ok-at-3.ensures in
-    let outputs = at_outputs n c.count_front-first.result c.in_ok-at-3.at c.in_ok-at-4.at c.count_front-first.ensures.count gates c.in_ok-at-4.ensures in
-    none_there n (c.count_front-first.result + c.count_nodes.result) c.in_ok-at-4.at _ _ count outputs (c.in_ok-judge_outputs.ensures _ (c.in_ok-at-2.ensures.met _ (c.in_ok-at.ensures.met c.no_names-met.ensures)))
+    let gates = at_cells (judged n) (c.count_front-first.result + c.count_nodes.result) c.in_ok-at-2.at c.in_ok-at-3.at count flips c.in_ok-at-3.ensures in
+    let outputs = at_outputs (judged n) c.count_front-first.result c.in_ok-at-3.at c.in_ok-at-4.at c.count_front-first.ensures.count gates c.in_ok-at-4.ensures in
+    none_there (judged n) (c.count_front-first.result + c.count_nodes.result) c.in_ok-at-4.at _ _ count outputs (c.in_ok-judge_outputs.ensures _ (c.in_ok-at-2.ensures.met _ (c.in_ok-at.ensures.met c.no_names-met.ensures)))

@@ -26,3 +26,8 @@ returns-clause-accepted c =
     let names = c.in_ok-names.ensures.accepted in
     let clocked = (rw names.1 at (c.is_clocked.ensures c.in_ok-names.names)).0 c.if-not-is_clocked.false in
     (misused_is m names.0 clocked ∙ c.in_ok-check.ensures.accepted, c.in_ok-typed.ensures.design)
+
+pub returns-clause-words : goal.returns-clause-words
+returns-clause-words c = λ from end tokens are derived.
+    let t = c.in_ok-typed.ensures in
+    c.typed_modules_keep_words.ensures c.args.module.now _ t.names t.form (t.sited (c.open_bits_are_read.ensures.read from end tokens c.args.module.now are derived c.in_ok-names.names)) t.words t.measured t.places

@@ -1,5 +1,6 @@
-use Rattle.std.proofs.Common.{◌≡◌, ap, sym, ◌∙◌, arith, ℕ, [], map}
+use Rattle.std.proofs.Common.{◌≡◌, ap, sym, ◌∙◌, arith, ℕ, List, length, [], map}
 use Rattle.v_meaning.specs.Names.{word_of}
+use Rattle.v_core.specs.declared.modules.TypedProcess.{TypedProcess}
 use Rattle.v_core.specs.Cores.{acts_where}
 use Rattle.v_core.specs.Values.{entry_at}
 use Rattle.v_order.specs.Stepping.{all_finished, next_of}
@@ -28,6 +29,7 @@ edge-requires c =
       counted = omega (arith, ap process_counts c.as_slice-2.ensures, c.requires.counted);
       room = omega (arith, ap process_counts c.as_slice-2.ensures, c.requires.room);
       empty = c.requires.empty;
+      places = omega (arith, ap (λ (ps : List TypedProcess). length ps) c.as_slice-2.ensures, c.requires.places);
     }
 
 pub returns-clause-shown : goal.returns-clause-shown

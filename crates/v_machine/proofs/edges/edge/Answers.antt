@@ -15,6 +15,7 @@ take_all_steps-requires c = record {
   counted = c.requires.counted;
   room = omega (arith, ap length c.requires.empty, c.requires.room);
   queued = ap (all_fit c.args.now.now.shape) c.requires.empty;
+  places = c.requires.places;
 }
 
 pub apply_from-requires : goal.apply_from-requires

@@ -1,4 +1,4 @@
-use Rattle.std.proofs.Common.{◌≡◌, ◌≤◌, sym, ◌∙◌, arith, length}
+use Rattle.std.proofs.Common.{sym, ◌∙◌, arith}
 use Rattle.v_machine.proofs.Walking.{counted_whole, short_behind, short_here, walked_on}
 use Rattle.v_machine.proofs.scheduling.short_entry.Goals as goal
 

@@ -1,6 +1,6 @@
 use Rattle.std.proofs.Common.{◌<◌, ◌^◌, subst}
 use Rattle.lz_base.specs.WordValue.{WordValue}
-use Rattle.v_run.proofs.Turns.{keep_next}
+use Rattle.v_run.proofs.Words.{keep_next}
 use Rattle.v_run.proofs.widths.keep.Goals as goal
 
 pub loop-word-preserved : goal.loop-word-preserved

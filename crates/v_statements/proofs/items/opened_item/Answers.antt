@@ -9,3 +9,6 @@ returns-clause-value c = item_opened c.args.names.now c.args.sites.now c.args.ki
 
 pub returns-clause-form : goal.returns-clause-form
 returns-clause-form c = c.in_ok-value.ensures.form
+
+pub returns-clause-sited : goal.returns-clause-sited
+returns-clause-sited c = c.in_ok-value.ensures.sited

@@ -10,8 +10,13 @@ use Rattle.v_statements.specs.Sound.{is_sound_arm}
 use Rattle.v_statements.proofs.Depths.{body_deeper, if_deeper, then_deeper, else_deeper, arms_deeper, arm_deeper}
 use Rattle.v_core.specs.declared.statement.TypedStmt.{TypedStmt}
 use Rattle.v_core.specs.FormedCores.{KeptIn, is_formed_stmt}
+use Rattle.v_core.specs.Sited.{SitedIn}
+use Rattle.v_core.specs.SitedCores.{is_sited_stmt}
+use Rattle.v_statements.specs.declared.cases.OpenArm.{OpenArm}
 use Rattle.v_statements.specs.Forms.{ArmFormed}
+use Rattle.v_statements.specs.Sited.{ArmRead, StmtRead, is_sited_open_arm}
 use Rattle.v_statements.proofs.FormLaws.{all_push, both, each_push}
+use Rattle.v_statements.proofs.ReadLaws.{read_assign, read_block, read_case, read_if, read_if_else, this_one}
 use Rattle.v_statements.proofs.Turns.{one_of, one_same, all_same}
 use Rattle.v_statements.proofs.OpenLaws.{arm_opened}
 use Rattle.v_statements.proofs.StmtLaws.{when_null, when_block, when_if, when_if_else, when_case, when_assign, branch_is, case_is_source, sound_block, sound_if, sound_then, sound_condition, sound_one, sound_other, sound_subject, sound_arms, sound_target, sound_value, sound_label, sound_body}
@@ -99,6 +104,9 @@ pub each-loop-s-preserved : goal.each-loop-s-preserved
 each-loop-s-preserved t c = (
   one_same _ _ c.loop-s.all _ c.args.body.now _ _ _ c.loop-s-test.true c.s-item.is c.in_ok-push.ensures.ok c.in_ok-one.ensures.value c.loop-s.invariant.0,
   all_push (λ (x : TypedStmt). is_formed_stmt x c.args.names.now) c.loop-s.all _ _ c.in_ok-push.ensures.ok c.in_ok-one.ensures.form c.loop-s.invariant.1,
+  λ widths read.
+      all_push (λ (x : TypedStmt). is_sited_stmt x c.args.names.now widths) c.loop-s.all _ _ c.in_ok-push.ensures.ok
+      (c.in_ok-one.ensures.sited widths (this_one (StmtRead widths c.args.sites.now c.args.names.now) c.args.body.now _ _ c.loop-s-test.true c.s-item.is read)) (c.loop-s.invariant.2 widths read),
 )
 
 pub each-returns-clause-value : goal.each-returns-clause-value
@@ -121,6 +129,10 @@ opened_arms-loop-arm-preserved t c = (
       (arm_opened c.args.names.now c.args.sites.now c.args.kind _ _ _ c.in_ok-label.ensures.items c.in_ok-label.ensures.default c.in_ok-body.ensures.value) c.loop-arm.invariant.0,
   each_push (ArmFormed c.args.names.now) c.loop-arm.all _ _ c.in_ok-push.ensures.ok (record { items = c.in_ok-label.ensures.form; body = c.in_ok-body.ensures.form })
       c.loop-arm.invariant.1,
+  λ widths read.
+      let here = this_one (ArmRead widths c.args.sites.now c.args.names.now) c.args.arms.now _ _ c.loop-arm-test.true c.arm-item.is read in
+      all_push (λ (a : OpenArm). is_sited_open_arm a c.args.names.now widths) c.loop-arm.all _ _ c.in_ok-push.ensures.ok
+      (both (c.in_ok-label.ensures.sited widths here.0) (c.in_ok-body.ensures.sited widths here.1)) (c.loop-arm.invariant.2 widths read),
 )
 
 pub opened_arms-returns-clause-value : goal.opened_arms-returns-clause-value
@@ -155,3 +167,44 @@ each-returns-clause-form t c = c.loop-s.invariant.1
 
 pub opened_arms-returns-clause-form : goal.opened_arms-returns-clause-form
 opened_arms-returns-clause-form t c = c.loop-arm.invariant.1
+
+-- ---- sites
+
+pub statement-returns-in-Null-clause-sited : goal.statement-returns-in-Null-clause-sited
+statement-returns-in-Null-clause-sited t c widths read = ap (λ (f : SitedIn). f c.args.names.now widths) c.nothing.ensures.sited
+
+pub statement-returns-in_ok-body-in-Block-clause-sited : goal.statement-returns-in_ok-body-in-Block-clause-sited
+statement-returns-in_ok-body-in-Block-clause-sited t c widths read =
+    ap (λ (f : SitedIn). f c.args.names.now widths) c.in_turn.ensures.sited
+    ∙ c.in_ok-body-in-Block.ensures.sited widths (read_block widths c.args.sites.now c.args.names.now c.args.s.now _ _ c.in-Block.is c.as_slice.ensures read)
+
+pub statement-returns-in_ok-t-in-If-clause-sited : goal.statement-returns-in_ok-t-in-If-clause-sited
+statement-returns-in_ok-t-in-If-clause-sited t c widths read =
+    let parts = read_if widths c.args.sites.now c.args.names.now c.args.s.now _ _ _ c.in-If.is c.get.ensures read in
+    ap (λ (f : SitedIn). f c.args.names.now widths) c.in_ok-t-in-If.ensures.sited
+    ∙ both (c.in_ok-x-in-If.ensures.sited widths parts.0)
+    (both (c.in_ok-one-in-If.ensures.sited widths parts.1) (ap (λ (f : SitedIn). f c.args.names.now widths) c.nothing-in-If.ensures.sited))
+
+pub statement-returns-in_ok-t-in-IfElse-clause-sited : goal.statement-returns-in_ok-t-in-IfElse-clause-sited
+statement-returns-in_ok-t-in-IfElse-clause-sited t c widths read =
+    let parts = read_if_else widths c.args.sites.now c.args.names.now c.args.s.now _ _ _ _ _ c.in-IfElse.is c.get-in-IfElse.ensures c.get-in-IfElse-2.ensures read in
+    ap (λ (f : SitedIn). f c.args.names.now widths) c.in_ok-t-in-IfElse.ensures.sited
+    ∙ both (c.in_ok-x-in-IfElse.ensures.sited widths parts.0)
+    (both (c.in_ok-one-in-IfElse.ensures.sited widths parts.1) (c.in_ok-other-in-IfElse.ensures.sited widths parts.2))
+
+pub statement-returns-in_ok-t-in-Case-clause-sited : goal.statement-returns-in_ok-t-in-Case-clause-sited
+statement-returns-in_ok-t-in-Case-clause-sited t c widths read =
+    let parts = read_case widths c.args.sites.now c.args.names.now c.args.s.now _ _ _ _ c.in-Case.is c.as_slice-in-Case.ensures read in
+    ap (λ (f : SitedIn). f c.args.names.now widths) c.in_ok-t-in-Case.ensures.sited
+    ∙ both (c.in_ok-subject-in-Case.ensures.sited widths parts.0) (c.in_ok-arms-in-Case.ensures.sited widths parts.1)
+
+pub statement-returns-in_ok-t-in-Assign-clause-sited : goal.statement-returns-in_ok-t-in-Assign-clause-sited
+statement-returns-in_ok-t-in-Assign-clause-sited t c widths read =
+    let parts = read_assign widths c.args.sites.now c.args.names.now c.args.s.now _ _ _ _ c.in-Assign.is c.get-in-Assign.ensures read in
+    c.in_ok-t-in-Assign.ensures.sited widths parts.0 parts.1
+
+pub each-returns-clause-sited : goal.each-returns-clause-sited
+each-returns-clause-sited t c = c.loop-s.invariant.2
+
+pub opened_arms-returns-clause-sited : goal.opened_arms-returns-clause-sited
+opened_arms-returns-clause-sited t c = c.loop-arm.invariant.2

@@ -19,7 +19,7 @@ part-requires-clause-descends c = (are_bounds (entry_of c.args.names.now c.args.
 pub part-requires-clause-within : goal.part-requires-clause-within
 part-requires-clause-within c = (are_bounds (entry_of c.args.names.now c.args.ident.now.name) _ _ _ _ c.in_ok-m.ensures c.in_ok-l.ensures c.requires.sound).within
 
-pub returns : goal.returns
-returns c =
+pub returns-clause-target : goal.returns-clause-target
+returns-clause-target c =
     as_target c.args.names.now _ _ _
-    (λ i. part_target (entry_of c.args.names.now c.args.ident.now.name) (or_zero (sym c.in_ok-m.ensures i)) (or_zero (sym c.in_ok-l.ensures i))) c.part.ensures
+    (λ i. part_target (entry_of c.args.names.now c.args.ident.now.name) (or_zero (sym c.in_ok-m.ensures i)) (or_zero (sym c.in_ok-l.ensures i))) c.part.ensures.target

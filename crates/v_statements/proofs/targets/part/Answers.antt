@@ -4,8 +4,8 @@ use Rattle.v_statements.proofs.FormLaws.{part_fits, part_keeps}
 use Rattle.v_statements.proofs.TargetLaws.{part_made}
 use Rattle.v_statements.proofs.targets.part.Goals as goal
 
-pub returns : goal.returns
-returns c =
+pub returns-clause-target : goal.returns-clause-target
+returns-clause-target c =
     let low = c.offset-low.ensures ∙ ap (λ (k : ℕ). c.args.lsb - k) c.known-known.ensures.low in
     let fits =
     part_fits (entry_of c.args.names.now c.args.ident.now.name) c.args.msb c.args.lsb _ _ _ c.span-width.ensures low c.known-known.ensures.width c.known-known.ensures.within c.requires.above c.requires.descends c.requires.within in

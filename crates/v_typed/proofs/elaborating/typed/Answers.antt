@@ -1,8 +1,10 @@
-use Rattle.std.proofs.Common.{rules, ◌∙◌, ap, map, flat_map}
-use Rattle.std.specs.Prelude.{◌&&◌}
+use Rattle.std.proofs.Common.{rules, ◌∙◌, ap, sym, subst, map, flat_map}
+use Rattle.std.specs.Prelude.{◌&&◌, All}
 use Rattle.v_core.specs.declared.modules.TypedSite.{TypedSite}
 use Rattle.v_meaning.specs.Names.{entry_of}
 use Rattle.v_meaning.specs.Modules.{output_names, item_assigns, item_combinational, item_clocked}
+use Rattle.v_typed.specs.Sited.{ItemRead}
+use Rattle.v_typed.proofs.Read.{read_items}
 use Rattle.v_typed.proofs.SoundItems.{sound_over}
 use Rattle.v_typed.proofs.TypedDesigns.{design_is}
 use Rattle.v_typed.proofs.elaborating.typed.Goals as goal
@@ -31,3 +33,12 @@ returns-clause-form c =
 
 pub returns-clause-measured : goal.returns-clause-measured
 returns-clause-measured c = rw c.in_ok-entries.ensures.copy c.in_ok-parts.ensures.measured
+
+pub returns-clause-sited : goal.returns-clause-sited
+returns-clause-sited c read =
+    let widths = map (λ (s : TypedSite). s.width) c.in_ok-found.found in
+    let items =
+    subst (All (ItemRead widths c.in_ok-places.places c.args.names.now)) (sym c.as_slice-2.ensures)
+    (read_items c.args.names.now c.args.module.now.items c.in_ok-found.found c.in_ok-places.places c.in_ok-found.ensures.sites
+    (c.in_ok-places.ensures ∙ ap (map (λ (s : TypedSite). s.at)) c.as_slice.ensures) read) in
+    rw c.in_ok-entries.ensures.copy (λ i. c.in_ok-parts.ensures.sited_assigns widths items i && c.in_ok-parts.ensures.sited_processes widths items i)

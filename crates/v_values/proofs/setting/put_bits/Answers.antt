@@ -1,4 +1,4 @@
-use Rattle.std.proofs.Common.{ap, sym, ◌∙◌, arith, ◌<◌, length}
+use Rattle.std.proofs.Common.{ap, ◌∙◌, arith, ◌<◌, length}
 use Rattle.lz_base.specs.WordValue.{WordValue}
 use Rattle.v_meaning.specs.Designs.{total}
 use Rattle.v_values.proofs.Changes.{widths_set}

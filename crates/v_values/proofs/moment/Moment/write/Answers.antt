@@ -1,4 +1,4 @@
-use Rattle.std.proofs.Common.{ap, ◌∙◌, arith, ℕ, List}
+use Rattle.std.proofs.Common.{◌<◌, ap, ◌∙◌, arith, ℕ, length, List}
 use Rattle.v_meaning.specs.Views.{changed_at, with_bits}
 use Rattle.v_values.specs.Moments.{MemoryValue}
 use Rattle.v_values.specs.Writes.{place_in}
@@ -14,6 +14,9 @@ returns-then-k-len-clause-view c =
 
 pub returns-then-k-len-clause-shape : goal.returns-then-k-len-clause-shape
 returns-then-k-len-clause-shape c =
-    memories_shaped c.args.self.now _ _ c.self.view_is
-    (map_set_same (λ (m : MemoryValue). m.width) c.self.inside.memories.items c.in-Word.k c.write.new.self c.index_mut.result.now (omega (arith, c.if-k-len.true, c.len.ensures))
+    let within : c.in-Word.k < length c.self.inside.memories.items = omega (arith, c.if-k-len.true, c.len.ensures) in
+    memories_shaped c.args.self.now _ _ _ c.self.view_is
+    (map_set_same (λ (m : MemoryValue). m.width) c.self.inside.memories.items c.in-Word.k c.write.new.self c.index_mut.result.now within
     (c.write.ensures.width ∙ ap (λ (m : MemoryValue). m.width) c.index_mut.ensures.value))
+    (map_set_same (λ (m : MemoryValue). length m.words) c.self.inside.memories.items c.in-Word.k c.write.new.self c.index_mut.result.now within
+    (c.write.ensures.count ∙ ap (λ (m : MemoryValue). length m.words) c.index_mut.ensures.value))

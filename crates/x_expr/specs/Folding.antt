@@ -1,5 +1,5 @@
 -- What a node is folded to.
-use Rattle.std.specs.Prelude.{◌≡◌, ◌×◌, ⊤, ℕ, ◌<◌, ◌^◌, List, Option, None, Some}
+use Rattle.std.specs.Prelude.{◌≡◌, ⊤, ℕ, ◌<◌, ◌^◌, List, Option, None, Some}
 use Rattle.v_meaning.specs.Views.{View}
 use Rattle.x_expr.specs.declared.node.Shape.TheVariants as s
 use Rattle.x_expr.specs.declared.node.Node.{Node}

@@ -1,5 +1,5 @@
 -- The forms of a module between its processes and its gates, and the machine that each of them is.
-use Rattle.std.specs.Prelude.{◌≡◌, ◌×◌, ℕ, ◌+◌, ◌==◌, List, [], ◌∷◌, ◌++◌, length, map, flat_map, replicate, reverse, Bool, false, if◌then◌else◌, Option, Some, slice_get, ⊤}
+use Rattle.std.specs.Prelude.{◌≡◌, ℕ, ◌+◌, ◌==◌, ◌<◌, ◌^◌, List, [], ◌∷◌, ◌++◌, length, map, flat_map, replicate, reverse, Bool, false, if◌then◌else◌, Option, Some, slice_get, ⊤}
 use Rattle.lz_base.specs.Bits.{low_bits}
 use Rattle.lz_base.specs.WordValue.{WordValue}
 use Rattle.lz_base.specs.declared.name.Port.{Port}

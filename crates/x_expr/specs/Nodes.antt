@@ -1,5 +1,5 @@
 -- The nodes of an arena, and when a node may stand behind others.
-use Rattle.std.specs.Prelude.{◌≡◌, ◌×◌, ⊤, ℕ, ◌+◌, ◌*◌, ◌<◌, ◌≤◌, ◌^◌, List, [], ◌∷◌, ◌++◌, Bool, true, false, if◌then◌else◌, Option, None, Some, slice_get}
+use Rattle.std.specs.Prelude.{◌≡◌, ⊤, ℕ, ◌+◌, ◌*◌, ◌<◌, ◌≤◌, ◌^◌, List, [], ◌∷◌, ◌++◌, Bool, true, false, if◌then◌else◌, Option, None, Some, slice_get}
 use Rattle.std.specs.Option.{option_map}
 use Rattle.v_meaning.specs.Senses.{Class, Shared, Compared, Shifted, Logical, class_of, is_through}
 use Rattle.x_expr.specs.declared.node.Shape.{Shape}

@@ -49,9 +49,9 @@ operation_fits b.GreaterEqual w s m k f = bit_fits _
 operation_fits b.Equal w s m k f = bit_fits _
 operation_fits b.NotEqual w s m k f = bit_fits _
 operation_fits b.And w s m k f = and_below m k w f.0
-operation_fits b.Xor w s m k f = xor_lt m k w f.0 f.1
+operation_fits b.Xor w s m k f = xor_lt w m k f.0 f.1
 operation_fits b.Xnor w s m k f = omega (arith, pow_pos w)
-operation_fits b.Or w s m k f = or_lt m k w f.0 f.1
+operation_fits b.Or w s m k f = or_lt w m k f.0 f.1
 operation_fits b.AndAlso w s m k f = bit_fits _
 operation_fits b.OrElse w s m k f = bit_fits _
 

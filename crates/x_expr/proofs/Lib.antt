@@ -1,2 +1,4 @@
 pub mod Arenas
 pub mod Fitting
+pub mod Equal
+pub mod Made

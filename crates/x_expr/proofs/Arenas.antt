@@ -160,3 +160,7 @@ value_grown old new number v grows h =
 
 pub node_grown : (old new : List Node) (node : Node) → Extends old new → IsNode old node → IsNode new node
 node_grown old new node grows is = subst (λ nodes. IsNode nodes node) (sym grows.grown) (node_stays old grows.more node is)
+
+pub meaning_grown : (old new : List Node) (node : Node) (v : View) → Extends old new → IsNode old node → node_value v (values_of v old) node ≡ node_value v (values_of v new) node
+unfolding Agree
+meaning_grown old new node v grows is = node_same v old (values_of v old) (values_of v new) node (λ i h. sym (value_grown old new i v grows h)) is

@@ -107,7 +107,7 @@ set_below w (y ∷ ys) (suc k) m f h (suc i) = set_below w ys k m f (λ j. h (su
 AllFit : List Node → List NodeValue → Type 0
 AllFit nodes values = (i : ℕ) (shape : Shape) → shape_at nodes i ≡ Some shape → Fits shape (at values i)
 
-word_fits : (w : ℕ) (value : NodeValue) → Fits (s.Word w) value → word_in value < 2 ^ w
+pub word_fits : (w : ℕ) (value : NodeValue) → Fits (s.Word w) value → word_in value < 2 ^ w
 word_fits w (One m) f = f
 word_fits w (Many ms) f = absurd f
 

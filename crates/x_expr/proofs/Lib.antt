@@ -2,3 +2,4 @@ pub mod Arenas
 pub mod Fitting
 pub mod Equal
 pub mod Made
+pub mod Folds

@@ -1,6 +1,6 @@
 ghost use Rattle.std.specs.Prelude.{◌≡◌, IfSome, length, ◌<◌};
 ghost use Rattle.x_expr.specs.declared.node.Node.TheVariants as node;
-ghost use Rattle.x_expr.specs.Nodes.{IsNode};
+ghost use Rattle.x_expr.specs.Nodes.{IsArena, IsNode};
 ghost use Rattle.x_expr.specs.Folding.{IsConstant, IsFold};
 
 use crate::Arena;
@@ -19,9 +19,11 @@ pub enum Fold {
 }
 
 // The width and the value of a constant.
+#[tactic(auto, using(crate::proofs::Folds::constant_is))]
 fn constant(arena: &Arena, number: u64) -> Option<(u32, u128)>
     requires { number < length arena.now }
-    ensures { IfSome result (λ r. IsConstant arena.now number r.0 r.1) }
+    ensures constant { IfSome result (λ r. IsConstant arena.now number r.0 r.1) }
+    ensures arena { IsArena arena.now }
 {
     match arena.node(number) {
         Node::Constant { width, value } => Some((*width, *value)),
@@ -78,6 +80,7 @@ fn choose(arena: &Arena, shape: Shape, condition: u64, then: u64, otherwise: u64
 }
 
 // A part that is the whole word is that word.
+#[tactic(auto, using(crate::proofs::Folds::part_there, crate::proofs::Arenas::node_stands, crate::proofs::Arenas::word_there))]
 fn part_of(arena: &Arena, low: u32, width: u32, operand: u64) -> Fold
     requires { IsNode arena.now (node.Part low width operand) }
     ensures { IsFold arena.now (node.Part low width operand) result }
@@ -94,18 +97,17 @@ fn part_of(arena: &Arena, low: u32, width: u32, operand: u64) -> Fold
     }
 }
 
+#[tactic(auto, using(crate::proofs::Folds::extended_there, crate::proofs::Arenas::shape_there))]
 fn extended(arena: &Arena, from: u32, to: u32, signed: bool, operand: u64) -> Fold
     requires { IsNode arena.now (node.Extend from to signed operand) }
     ensures { IsFold arena.now (node.Extend from to signed operand) result }
 {
-    if from == to {
-        return Fold::There(operand);
-    }
     match constant(arena, operand) {
         Some((_, value)) => Fold::Constant {
             width: to,
             value: extend(from, value, to, signed),
         },
+        None if from == to => Fold::There(operand),
         None => Fold::Itself,
     }
 }
@@ -123,18 +125,17 @@ fn concat(arena: &Arena, left_width: u32, left: u64, right_width: u32, right: u6
     }
 }
 
+#[tactic(auto, using(crate::proofs::Folds::copied_there, crate::proofs::Arenas::shape_there))]
 fn repeated(arena: &Arena, count: u32, width: u32, operand: u64) -> Fold
     requires { IsNode arena.now (node.Copies count width operand) }
     ensures { IsFold arena.now (node.Copies count width operand) result }
 {
-    if count == 1 {
-        return Fold::There(operand);
-    }
     match constant(arena, operand) {
         Some((_, value)) => Fold::Constant {
             width: count * width,
             value: copies(count, width, value),
         },
+        None if count == 1 => Fold::There(operand),
         None => Fold::Itself,
     }
 }

@@ -80,7 +80,7 @@ fn choose(arena: &Arena, shape: Shape, condition: u64, then: u64, otherwise: u64
 }
 
 // A part that is the whole word is that word.
-#[tactic(auto, using(crate::proofs::Folds::part_there, crate::proofs::Arenas::node_stands, crate::proofs::Arenas::word_there))]
+#[tactic(auto, using(crate::proofs::Folds::part_there, crate::proofs::Arenas::word_there))]
 fn part_of(arena: &Arena, low: u32, width: u32, operand: u64) -> Fold
     requires { IsNode arena.now (node.Part low width operand) }
     ensures { IsFold arena.now (node.Part low width operand) result }
@@ -97,7 +97,7 @@ fn part_of(arena: &Arena, low: u32, width: u32, operand: u64) -> Fold
     }
 }
 
-#[tactic(auto, using(crate::proofs::Folds::extended_there, crate::proofs::Arenas::shape_there))]
+#[tactic(auto, using(crate::proofs::Arenas::shape_there))]
 fn extended(arena: &Arena, from: u32, to: u32, signed: bool, operand: u64) -> Fold
     requires { IsNode arena.now (node.Extend from to signed operand) }
     ensures { IsFold arena.now (node.Extend from to signed operand) result }

@@ -1,6 +1,6 @@
 -- Nodes that come behind others: those that were there keep what they stand for and their values, and each node of an
 -- arena is over those before it.
-use Rattle.std.proofs.Common.{◌≡◌, ◌<◌, ◌≤◌, ◌+◌, ◌==◌, ℕ, zero, suc, List, [], ◌∷◌, ◌++◌, length, Bool, true, false, Some, slice_get, get_or, refl, sym, ap, subst, ◌∙◌, arith, append_assoc, length-append, zero-add}
+use Rattle.std.proofs.Common.{◌≡◌, ◌<◌, ◌+◌, ℕ, zero, suc, List, [], ◌∷◌, ◌++◌, length, true, Some, slice_get, refl, sym, ap, subst, ◌∙◌, arith, append_assoc, length-append, zero-add}
 use Rattle.std.proofs.lemmas.List.{get_or_append_left, get_or-append-add}
 use Rattle.v_meaning.specs.Senses.{Class, Shared, Compared, Shifted, Logical, class_of}
 use Rattle.v_meaning.specs.Views.{View}

@@ -1,9 +1,9 @@
 -- The value of a node fits what the node stands for.
-use Rattle.std.proofs.Common.{◌≡◌, ◌<◌, ◌≤◌, ◌+◌, ◌-◌, ◌*◌, ◌/◌, ◌%◌, ◌^◌, ◌==◌, ℕ, zero, suc, List, [], ◌∷◌, ◌++◌, length, Bool, true, false, Some, slice_get, slice_set, slice_index, get_or, refl, sym, ap, subst, ◌∙◌, arith, append_assoc, append-nil, length-append, add_comm, suc-mul, if◌then◌else◌, lt_of_le_of_lt, nat_le, ◌&&◌}
+use Rattle.std.proofs.Common.{◌≡◌, ◌<◌, ◌≤◌, ◌+◌, ◌-◌, ◌*◌, ◌/◌, ◌%◌, ◌^◌, ℕ, zero, suc, List, [], ◌∷◌, ◌++◌, length, Bool, true, false, Some, slice_set, refl, sym, ap, subst, ◌∙◌, arith, append_assoc, append-nil, length-append, add_comm, suc-mul, if◌then◌else◌, lt_of_le_of_lt, ◌&&◌}
 use Rattle.std.proofs.lemmas.Nat.{or_lt, xor_lt, mod_below, pow_pos, shr_le}
-use Rattle.std.proofs.lemmas.List.{length-set, get_or-append-add, get_or_append_left}
+use Rattle.std.proofs.lemmas.List.{length-set}
 use Rattle.lz_base.specs.Bits.{is_negative}
-use Rattle.v_meaning.specs.Senses.{Class, Shared, Compared, Shifted, Logical, bit, class_of, copies, extended, is_through, operation, operation_before}
+use Rattle.v_meaning.specs.Senses.{Class, Shared, Compared, Shifted, Logical, bit, class_of, copies, is_through, operation, operation_before}
 use Rattle.v_meaning.specs.Views.{View}
 use Rattle.v_syntax.specs.declared.expr.UnaryOperator.{UnaryOperator}
 use Rattle.v_syntax.specs.declared.expr.UnaryOperator.TheVariants as u
@@ -165,9 +165,9 @@ unfolding AllFit walked
 all_fit v before [] values long fit are i shape is = fit i shape (subst (λ all. shape_at all i ≡ Some shape) (append-nil before) is)
 all_fit v before (node ∷ nodes) values long fit are i shape is =
     all_fit v (before ++ node ∷ []) nodes (values ++ node_value v values node ∷ [])
-        (omega (arith, long, length-append values (node_value v values node ∷ []), length-append before (node ∷ [])))
-        (more_fit before values node (node_value v values node) long fit (node_fits v before values node fit are.0))
-        are.1 i shape (subst (λ all. shape_at all i ≡ Some shape) (sym (append_assoc before (node ∷ []) nodes)) is)
+    (omega (arith, long, length-append values (node_value v values node ∷ []), length-append before (node ∷ [])))
+    (more_fit before values node (node_value v values node) long fit (node_fits v before values node fit are.0))
+    are.1 i shape (subst (λ all. shape_at all i ≡ Some shape) (sym (append_assoc before (node ∷ []) nodes)) is)
 
 -- the value of a node of an arena fits what it stands for
 pub value_fits : (nodes : List Node) (number : ℕ) (shape : Shape) → IsArena nodes → shape_at nodes number ≡ Some shape → (v : View) → Fits shape (value_at v nodes number)

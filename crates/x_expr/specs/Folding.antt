@@ -1,12 +1,12 @@
 -- What a node is folded to.
-use Rattle.std.specs.Prelude.{◌≡◌, ⊤, ℕ, ◌<◌, ◌^◌, List, Option, None, Some}
+use Rattle.std.specs.Prelude.{◌≡◌, ⊤, ℕ, ◌<◌, ◌^◌, List, Some}
 use Rattle.v_meaning.specs.Views.{View}
 use Rattle.x_expr.specs.declared.node.Shape.TheVariants as s
 use Rattle.x_expr.specs.declared.node.Node.{Node}
 use Rattle.x_expr.specs.declared.folding.Fold.{Fold}
 use Rattle.x_expr.specs.declared.folding.Fold.TheVariants as o
 use Rattle.x_expr.specs.Nodes.{IsWidth, shape_at, shape_of}
-use Rattle.x_expr.specs.Values.{NodeValue, One, node_value, value_at, values_of}
+use Rattle.x_expr.specs.Values.{One, node_value, value_at, values_of}
 
 -- A node that is there has the shape and the value of this one, in every view; or its value is this constant; or it is
 -- left as it is.

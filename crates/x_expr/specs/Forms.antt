@@ -1,5 +1,5 @@
 -- The forms of a module between its processes and its gates, and the machine that each of them is.
-use Rattle.std.specs.Prelude.{◌≡◌, ℕ, ◌+◌, ◌==◌, ◌<◌, ◌^◌, List, [], ◌∷◌, ◌++◌, length, map, flat_map, replicate, reverse, Bool, false, if◌then◌else◌, Option, Some, slice_get, ⊤}
+use Rattle.std.specs.Prelude.{◌≡◌, ℕ, ◌+◌, ◌==◌, ◌<◌, ◌^◌, List, [], ◌∷◌, ◌++◌, length, map, replicate, reverse, Bool, false, if◌then◌else◌, Some, slice_get, ⊤}
 use Rattle.lz_base.specs.Bits.{low_bits}
 use Rattle.lz_base.specs.WordValue.{WordValue}
 use Rattle.lz_base.specs.declared.name.Port.{Port}
@@ -20,7 +20,7 @@ use Rattle.x_expr.specs.declared.forms.Flow.{Flow}
 use Rattle.x_expr.specs.declared.forms.Chosen.{Chosen}
 use Rattle.x_expr.specs.declared.forms.Register.{Register}
 use Rattle.x_expr.specs.declared.forms.Flat.{Flat}
-use Rattle.x_expr.specs.Nodes.{IsArena, IsWidth, shape_at}
+use Rattle.x_expr.specs.Nodes.{IsWidth, shape_at}
 use Rattle.x_expr.specs.Values.{word_of, memory_of}
 
 -- ---- roots

@@ -1,5 +1,5 @@
 -- What nodes have in a view.
-use Rattle.std.specs.Prelude.{◌≡◌, ℕ, zero, suc, ◌+◌, ◌*◌, ◌/◌, ◌%◌, ◌^◌, ◌<◌, ◌==◌, List, [], ◌∷◌, ◌++◌, length, map, get_or, slice_index, slice_set, if◌then◌else◌}
+use Rattle.std.specs.Prelude.{◌≡◌, ℕ, zero, suc, ◌+◌, ◌*◌, ◌/◌, ◌%◌, ◌^◌, ◌<◌, ◌==◌, List, [], ◌∷◌, ◌++◌, length, get_or, slice_index, slice_set, if◌then◌else◌}
 use Rattle.v_meaning.specs.Names.{words_of}
 use Rattle.v_meaning.specs.Senses.{copies, extended, operation, operation_before}
 use Rattle.v_meaning.specs.Views.{View}

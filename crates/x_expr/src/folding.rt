@@ -11,10 +11,7 @@ use v_words::{beside, copies, extend, operate, operate_before, part};
 #[derive(Clone, Copy, Debug, PartialEq, Eq)]
 pub enum Fold {
     There(u64),
-    Constant {
-        width: u32,
-        value: u128,
-    },
+    Constant { width: u32, value: u128 },
     Itself,
 }
 
@@ -45,14 +42,7 @@ fn unary(arena: &Arena, operator: Before, width: u32, operand: u64) -> Fold
     }
 }
 
-fn binary(
-    arena: &Arena,
-    operator: Between,
-    width: u32,
-    signed: bool,
-    left: u64,
-    right: u64,
-) -> Fold
+fn binary(arena: &Arena, operator: Between, width: u32, signed: bool, left: u64, right: u64) -> Fold
     requires { IsNode arena.now (node.Binary operator width signed left right) }
     ensures { IsFold arena.now (node.Binary operator width signed left right) result }
 {

@@ -12,11 +12,6 @@ use Rattle.x_expr.specs.Values.{NodeValue, One, at, node_value, value_at, values
 
 -- ---- what nodes stand for
 
-pub get_stays : (nodes more : List Node) (x : ℕ) → x < length nodes → slice_get (nodes ++ more) x ≡ slice_get nodes x
-get_stays [] more x h = absurd (omega arith)
-get_stays (node ∷ nodes) more zero h = refl
-get_stays (node ∷ nodes) more (suc x) h = get_stays nodes more x (omega arith)
-
 pub shape_there : (nodes : List Node) (x : ℕ) (s : Shape) → shape_at nodes x ≡ Some s → x < length nodes
 shape_there [] x s is = absurd (cc is)
 shape_there (node ∷ nodes) zero s is = omega arith

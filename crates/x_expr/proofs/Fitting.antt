@@ -80,9 +80,6 @@ copies_fit (suc count) w m f =
 
 -- ---- the words of memories
 
-zero_fits : (w : ℕ) → 0 < 2 ^ w
-zero_fits w = pow_pos w
-
 cut_below : (count w : ℕ) (words : List ℕ) → AreBelow w (cut_words count w words)
 cut_below zero w words i = pow_pos w
 cut_below (suc count) w [] zero = pow_pos w

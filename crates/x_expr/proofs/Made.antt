@@ -4,7 +4,9 @@ use Rattle.std.specs.List.{list_all, list_any}
 use Rattle.std.proofs.Math.Bool.{or-true}
 use Rattle.std.proofs.lemmas.List.Folds.{list_all-append}
 use Rattle.x_expr.specs.declared.node.Node.{Node}
+use Rattle.x_expr.specs.contracts.node.NodePartialEq.TheImpl.{eq-value}
 use Rattle.x_expr.specs.Nodes.{AllDiffer, AreBehind, Extends, IsArena, IsNode}
+use Rattle.x_expr.proofs.Equal.{itself}
 
 -- new nodes that are the old ones, or these and this node
 pub record HasMade (old new : List Node) (x : Node) : Type 0 where
@@ -61,8 +63,8 @@ made_by test old new x false own arena is looked e =
       arena = subst IsArena (sym e) (record { behind = behind_more [] old x arena.behind is; differ = differ_more old x absent arena.differ });
     }
 
--- what an insertion leaves, where a test tells whether the node is there
-pub made : (test : Node → Bool) (before old new : List Node) (x : Node) → test x ≡ true → before ≡ old → IsArena before → IsNode old x
-    → new ≡ (if list_any test before then before else before ++ x ∷ []) → HasMade old new x
-made test before old new x own same arena is e =
-    subst (λ all. HasMade all new x) same (made_by test before new x (list_any test before) own arena (subst (λ all. IsNode all x) (sym same) is) refl e)
+-- what an insertion into a set leaves
+pub made : {before old new : List Node} {x : Node} → before ≡ old → IsArena before → IsNode old x
+    → new ≡ (if list_any (eq-value.it x) before then before else before ++ x ∷ []) → HasMade old new x
+made {before} {old} {new} {x} same arena is e =
+    subst (λ all. HasMade all new x) same (made_by (eq-value.it x) before new x (list_any (eq-value.it x) before) (itself x) arena (subst (λ all. IsNode all x) (sym same) is) refl e)

@@ -1,3 +1,4 @@
+-- A word that keeps its width is itself.
 use Rattle.x_expr.proofs.Folds.{extended_there}
 use Rattle.x_expr.proofs.folding.extended.Goals as goal
 

@@ -1,3 +1,4 @@
+-- A node of an arena keeps to its widths.
 use Rattle.x_expr.proofs.Arenas.{node_stands}
 use Rattle.x_expr.proofs.folding.part_of.Goals as goal
 

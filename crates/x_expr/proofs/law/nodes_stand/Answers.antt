@@ -1,3 +1,4 @@
+-- The law of the nodes of an arena.
 use Rattle.x_expr.proofs.Arenas.{node_stands, value_stands}
 use Rattle.x_expr.proofs.law.nodes_stand.Goals as goal
 

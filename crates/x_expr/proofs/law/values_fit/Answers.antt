@@ -1,3 +1,4 @@
+-- The law of the sizes of values.
 use Rattle.x_expr.proofs.Fitting.{value_fits}
 use Rattle.x_expr.proofs.law.values_fit.Goals as goal
 

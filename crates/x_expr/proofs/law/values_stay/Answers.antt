@@ -1,3 +1,4 @@
+-- The law of nodes that come behind others.
 use Rattle.x_expr.proofs.Arenas.{node_grown, value_grown}
 use Rattle.x_expr.proofs.law.values_stay.Goals as goal
 

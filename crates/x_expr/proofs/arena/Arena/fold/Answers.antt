@@ -1,3 +1,4 @@
+-- A constant that is taken up has the value of the node for which it stands.
 use Rattle.std.proofs.Common.{◌∙◌, sym}
 use Rattle.x_expr.proofs.Arenas.{meaning_grown}
 use Rattle.x_expr.proofs.arena.Arena.fold.Goals as goal

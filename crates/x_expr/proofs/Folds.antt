@@ -46,6 +46,7 @@ not_cut w m f = ap (λ k. k % 2 ^ w) (div-one m) ∙ mod-eq_of_lt f
 
 pub extended_there : (nodes : List Node) (from to x : ℕ) (signed : Bool) → IsArena nodes → IsNode nodes (n.Extend from to signed x) → from ≡ to → IsFold nodes (n.Extend from to signed x) (o.There x)
 extended_there nodes from to x signed arena is same = (
+  arena,
   is.2 ∙ ap (λ w. Some (s.Word w)) same,
   λ v. (has_word nodes x from v arena is.2).0
       ∙ ap One (sym (not_extended from (word_of v nodes x) signed) ∙ ap (λ w. extended from (word_of v nodes x) w signed) same),
@@ -53,6 +54,7 @@ extended_there nodes from to x signed arena is same = (
 
 pub copied_there : (nodes : List Node) (count w x : ℕ) → IsArena nodes → IsNode nodes (n.Copies count w x) → count ≡ 1 → IsFold nodes (n.Copies count w x) (o.There x)
 copied_there nodes count w x arena is one = (
+  arena,
   is.1 ∙ ap (λ k. Some (s.Word k)) (sym (one-mul w) ∙ ap (λ k. k * w) (sym one)),
   λ v. (has_word nodes x w v arena is.1).0
       ∙ ap One (sym (not_copied w (word_of v nodes x)) ∙ ap (λ k. copies k w (word_of v nodes x)) (sym one)),
@@ -61,6 +63,7 @@ copied_there nodes count w x arena is one = (
 pub part_there : (nodes : List Node) (low w x : ℕ) (node : Node) → IsArena nodes → slice_get nodes x ≡ Some node → low ≡ 0 → shape_of node ≡ s.Word w → IsFold nodes (n.Part low w x) (o.There x)
 part_there nodes low w x node arena is none whole =
     let shape : HasWord nodes x w = ap (option_map shape_of) is ∙ ap Some whole in (
+      arena,
       shape,
       λ v. let has : (value_at v nodes x ≡ One (word_of v nodes x)) × (word_of v nodes x < 2 ^ w) = has_word nodes x w v arena shape in
           has.0 ∙ ap One (sym (not_cut w (word_of v nodes x) has.1) ∙ ap (λ k. word_of v nodes x / 2 ^ k % 2 ^ w) (sym none)),

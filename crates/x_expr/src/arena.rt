@@ -90,7 +90,6 @@ impl Arena {
         ensures arena { IsArena self.new }
         ensures err { OnErr result (self.new ≡ self.old) }
     {
-        let _ = &self.nodes;
         match folded(self, node) {
             Fold::There(number) => Ok(number),
             Fold::Constant { width, value } => {

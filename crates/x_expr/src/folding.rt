@@ -60,11 +60,9 @@ fn choose(arena: &Arena, shape: Shape, condition: u64, then: u64, otherwise: u64
     requires { IsNode arena.now (node.Choose shape condition then otherwise) }
     ensures { IsFold arena.now (node.Choose shape condition then otherwise) result }
 {
-    if then == otherwise {
-        return Fold::There(then);
-    }
     match constant(arena, condition) {
         Some((_, value)) => Fold::There(if value == 0 { otherwise } else { then }),
+        None if then == otherwise => Fold::There(then),
         None => Fold::Itself,
     }
 }

@@ -1,0 +1,5 @@
+pub mod Arenas
+pub mod Fitting
+pub mod Equal
+pub mod Made
+pub mod Folds

@@ -34,6 +34,15 @@ pub enum Stop {
     OutOfMemory,
 }
 
+impl Stop {
+    /// The text breaks this rule at this byte.
+    pub fn broken(rule: Rule, at: u64) -> Stop
+        ensures { result ≡ stops.Fault (record { rule = rule; at = at }) }
+    {
+        Stop::Fault(Fault { rule, at })
+    }
+}
+
 /// Why a file was not read.
 #[derive(Clone, Copy, Debug, PartialEq, Eq, Error)]
 pub enum ReadEnd {

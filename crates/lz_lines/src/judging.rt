@@ -5,17 +5,14 @@ ghost use Rattle.lz_lines.specs.Fields.{number};
 ghost use Rattle.lz_lines.specs.References.{Judges, wrong_inputs, wrong_name, wrong_numbers, wrong_output};
 ghost use Rattle.lz_lines.specs.Shared.{clock_line, input_line, output_line};
 
-use lz_base::{Fault, Name, OutOfMemory, Port, Rule, Stop, meet};
+use lz_base::{Name, OutOfMemory, Port, Rule, Stop, meet};
 use std::collections::BTreeSet;
 
 // The fault that breaks this rule at this place.
 fn wrong(rule: Rule, at: usize) -> Stop
     ensures { Judges rule (Err result) 0 (at ∷ []) }
 {
-    Stop::Fault(Fault {
-        rule,
-        at: at as u64,
-    })
+    Stop::broken(rule, at as u64)
 }
 
 // The bytes of a number and its blank.

@@ -1,10 +1,9 @@
 ghost use Rattle.std.specs.Prelude.{◌≡◌, ◌≤◌, ◌-◌};
-ghost use Rattle.lz_base.specs.declared.fault.Stop.TheVariants as stops;
 ghost use Rattle.lz_lines.specs.Unread.{IsWithin, stop_of};
 ghost use Rattle.lz_lines.specs.declared.unread.Unread.TheVariants as unread;
 
 use crate::reading::Broken;
-use lz_base::{Fault, OutOfMemory, Rule, Stop};
+use lz_base::{OutOfMemory, Rule, Stop};
 use std::alloc::{AllocError, AllocFailed};
 use thiserror::Error;
 
@@ -24,10 +23,7 @@ impl Unread {
         ensures { result ≡ stop_of length rule self }
     {
         match self {
-            Unread::Broken(broken) => Stop::Fault(Fault {
-                rule,
-                at: (length - broken.left) as u64,
-            }),
+            Unread::Broken(broken) => Stop::broken(rule, (length - broken.left) as u64),
             Unread::OutOfMemory => Stop::OutOfMemory,
         }
     }

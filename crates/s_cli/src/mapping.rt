@@ -5,7 +5,7 @@ ghost use Rattle.s_cli.specs.declared.forms.Command.TheVariants as command;
 ghost use Rattle.s_cli.specs.Mapping.{IsMappedBy, IsMappedWith};
 ghost use Rattle.s_cli.specs.Texts.{IsShort, IsWhole};
 
-use lz_base::{Fault, Rule, Stop, TEXT_LIMIT};
+use lz_base::{Rule, Stop, TEXT_LIMIT};
 use m_mapper::Mapper;
 use s_map::{Mapped, map_by, map_plainly};
 use std::alloc::Global;
@@ -21,10 +21,7 @@ pub(crate) fn map(
 {
     match network {
         Some(bytes) => map_by(alloc, bytes.as_slice(), mapper),
-        None => Err(Stop::Fault(Fault {
-            rule: Rule::G1,
-            at: TEXT_LIMIT,
-        })),
+        None => Err(Stop::broken(Rule::G1, TEXT_LIMIT)),
     }
 }
 
@@ -43,9 +40,6 @@ pub(crate) fn map_with(
             s_map::map_with(alloc, network.as_slice(), proposal.as_slice())
         }
         (Some(network), None) => map_plainly(alloc, network.as_slice()),
-        (None, _) => Err(Stop::Fault(Fault {
-            rule: Rule::G1,
-            at: TEXT_LIMIT,
-        })),
+        (None, _) => Err(Stop::broken(Rule::G1, TEXT_LIMIT)),
     }
 }

@@ -9,7 +9,7 @@ ghost use Rattle.s_cli.specs.Texts.{IsShort, IsWhole};
 ghost use Rattle.s_flow.specs.Simulation.{widths_of};
 ghost use Rattle.t_trace.specs.Widths.{AreWidths, CyclesFit};
 
-use lz_base::{Fault, Rule, Stop, TEXT_LIMIT};
+use lz_base::{Rule, Stop, TEXT_LIMIT};
 use n_cells::Netlist;
 use s_flow::{simulate, simulate_lanes, widths};
 use std::alloc::Global;
@@ -22,10 +22,7 @@ fn netlist_of(alloc: Global, text: &Option<Vec<u8>>) -> Result<Netlist, Stop>
 {
     match text {
         Some(bytes) => n_text::read(alloc, bytes.as_slice()),
-        None => Err(Stop::Fault(Fault {
-            rule: Rule::N1,
-            at: TEXT_LIMIT,
-        })),
+        None => Err(Stop::broken(Rule::N1, TEXT_LIMIT)),
     }
 }
 
@@ -42,10 +39,7 @@ pub(crate) fn stimulus_in(
 {
     match text {
         Some(bytes) => read_stimulus(alloc, bytes.as_slice(), widths),
-        None => Err(Stop::Fault(Fault {
-            rule: Rule::T1,
-            at: TEXT_LIMIT,
-        })),
+        None => Err(Stop::broken(Rule::T1, TEXT_LIMIT)),
     }
 }
 

@@ -12,7 +12,7 @@ ghost use Rattle.s_cli.specs.SourceRun.{by_schedules, in_text_order, taken_width
 ghost use Rattle.s_cli.specs.Texts.{IsShort, IsWhole};
 
 use crate::simulation::stimulus_in;
-use lz_base::{Fault, Rule, SOURCE_LIMIT, Stop, TEXT_LIMIT};
+use lz_base::{Rule, SOURCE_LIMIT, Stop, TEXT_LIMIT};
 use s_flow::{Prepared, runnable};
 use std::alloc::Global;
 use t_choices::{Choices, Schedules};
@@ -46,10 +46,7 @@ fn source_of(alloc: Global, text: &Option<Vec<u8>>) -> Result<Prepared, Stop>
 {
     match text {
         Some(bytes) => runnable(alloc, bytes.as_slice()),
-        None => Err(Stop::Fault(Fault {
-            rule: Rule::E1,
-            at: SOURCE_LIMIT,
-        })),
+        None => Err(Stop::broken(Rule::E1, SOURCE_LIMIT)),
     }
 }
 
@@ -79,10 +76,7 @@ fn choices_of(
 {
     match text {
         Some(bytes) => choices_for(alloc, core, cycles, bytes.as_slice()),
-        None => Err(Stop::Fault(Fault {
-            rule: Rule::C1,
-            at: TEXT_LIMIT,
-        })),
+        None => Err(Stop::broken(Rule::C1, TEXT_LIMIT)),
     }
 }
 
@@ -99,10 +93,7 @@ fn schedules_of(
 {
     match text {
         Some(bytes) => schedules_for(alloc, core, cycles, bytes.as_slice()),
-        None => Err(Stop::Fault(Fault {
-            rule: Rule::S1,
-            at: TEXT_LIMIT,
-        })),
+        None => Err(Stop::broken(Rule::S1, TEXT_LIMIT)),
     }
 }
 

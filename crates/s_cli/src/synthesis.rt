@@ -5,7 +5,7 @@ ghost use Rattle.s_cli.specs.Synthesis.{IsTranslation};
 ghost use Rattle.s_cli.specs.declared.forms.Command.TheVariants as command;
 ghost use Rattle.s_cli.specs.Texts.{IsShort, IsWhole};
 
-use lz_base::{Fault, Rule, SOURCE_LIMIT, Stop};
+use lz_base::{Rule, SOURCE_LIMIT, Stop};
 use s_flow::{make, small};
 use std::alloc::Global;
 use v_lexer::one_reading;
@@ -33,9 +33,6 @@ pub(crate) fn translate(alloc: Global, source: &Option<Vec<u8>>) -> Result<Vec<u
 {
     match source {
         Some(bytes) => translated(alloc, bytes.as_slice()),
-        None => Err(Stop::Fault(Fault {
-            rule: Rule::E1,
-            at: SOURCE_LIMIT,
-        })),
+        None => Err(Stop::broken(Rule::E1, SOURCE_LIMIT)),
     }
 }

@@ -7,7 +7,7 @@ ghost use Rattle.s_cli.specs.Reading.{Reads};
 ghost use Rattle.s_cli.specs.Texts.{IsShort, IsWhole};
 ghost use Rattle.s_cli.specs.Upgrade.{IsUpgrade};
 
-use lz_base::{Fault, Rule, Stop, TEXT_LIMIT};
+use lz_base::{Rule, Stop, TEXT_LIMIT};
 use n_cells::{Netlist, machine_lasts, old_run};
 use std::alloc::Global;
 
@@ -18,10 +18,7 @@ fn old_netlist_of(alloc: Global, text: &Option<Vec<u8>>) -> Result<Netlist, Stop
 {
     match text {
         Some(bytes) => n_text::read_old(alloc, bytes.as_slice()),
-        None => Err(Stop::Fault(Fault {
-            rule: Rule::N1,
-            at: TEXT_LIMIT,
-        })),
+        None => Err(Stop::broken(Rule::N1, TEXT_LIMIT)),
     }
 }
 

@@ -9,7 +9,7 @@ ghost use Rattle.s_flow.specs.FirstBroken.{first_broken};
 ghost use Rattle.s_flow.specs.Front.{IsFront, IsTypedFrom, IsRead, IsReadFrom};
 ghost use Rattle.s_flow.specs.Running.{IfSpelled};
 
-use lz_base::{Fault, Rule, Stop};
+use lz_base::{Rule, Stop};
 use std::alloc::Global;
 use v_core::Core;
 use v_elaborate::declared_names;
@@ -89,8 +89,5 @@ pub(crate) fn judged(alloc: Global, module: &Module) -> Result<Core, Stop>
 fn unsupported() -> Stop
     ensures { result ≡ Stop.Fault (record { rule = Rule.U1; at = 0 }) }
 {
-    Stop::Fault(Fault {
-        rule: Rule::U1,
-        at: 0,
-    })
+    Stop::broken(Rule::U1, 0)
 }

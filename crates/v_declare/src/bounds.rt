@@ -10,7 +10,7 @@ ghost use Rattle.v_declare.specs.Walks.{Judges};
 ghost use Rattle.v_declare.specs.Shapes.{HasShape, IsVector};
 
 use crate::counts::Declared;
-use lz_base::{Fault, Rule, Stop};
+use lz_base::{Rule, Stop};
 use std::alloc::Global;
 use v_constants::{Constant, constant};
 use v_syntax::{Expr, Placed, Range};
@@ -35,7 +35,7 @@ pub(crate) struct Addresses {
 pub(crate) fn improper(at: u64) -> Stop
     ensures { result ≡ stop.Fault (record { rule = r.E7; at = at }) }
 {
-    Stop::Fault(Fault { rule: Rule::E7, at })
+    Stop::broken(Rule::E7, at)
 }
 
 /// The constant of an expression that begins at a place, over the names before it.

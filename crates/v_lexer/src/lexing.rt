@@ -11,7 +11,7 @@ use crate::gaps::after_gap;
 use crate::marks::mark;
 use crate::numbers::{based, decimal};
 use crate::words::{cast, word};
-use lz_base::{Fault, Items, OutOfMemory, Rule, Stop};
+use lz_base::{Items, OutOfMemory, Rule, Stop};
 use std::alloc::Global;
 use v_syntax::{Lexeme, Token, Tokens};
 
@@ -66,7 +66,7 @@ pub fn lex(alloc: Global, bytes: &[u8]) -> Result<Tokens, Stop>
         }
         let at = (bytes.len() - left.len()) as u64;
         let Some((lexeme, rest)) = lexeme(alloc, left)? else {
-            return Err(Stop::Fault(Fault { rule: Rule::E2, at }));
+            return Err(Stop::broken(Rule::E2, at));
         };
         push(&mut tokens, Token { lexeme, at })?;
         left = rest;

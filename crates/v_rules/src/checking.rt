@@ -1,6 +1,5 @@
 ghost use Rattle.std.specs.Prelude.{◌≡◌, ◌↔◌, List, [], None, Some, IfOk, IsTrue, true};
 ghost use Rattle.lz_base.specs.Answers.{IfFault};
-ghost use Rattle.lz_base.specs.declared.fault.Stop.TheVariants as stop;
 ghost use Rattle.v_meaning.specs.declared.names.Entry.{Entry};
 ghost use Rattle.v_meaning.specs.Broken.{places_of, first_fault, process_rules, too_heavy};
 ghost use Rattle.v_meaning.specs.Declarations.{names_of};
@@ -103,17 +102,10 @@ fn first_broken(
 {
     for rule in rules {
         if let Some(at) = first_of(alloc, names, module, uses, *rule)? {
-            return Err(broken(*rule, at));
+            return Err(Stop::broken(*rule, at));
         }
     }
     Ok(())
-}
-
-// A rule is broken at a place.
-fn broken(rule: Rule, at: u64) -> Stop
-    ensures { result ≡ stop.Fault (record { rule = rule; at = at }) }
-{
-    Stop::Fault(Fault { rule, at })
 }
 
 // The least place where a module of these uses breaks a rule.

@@ -13,7 +13,7 @@ ghost use Rattle.v_run.specs.Runs.{IsHalted, RunsBy, RunsInAnyOrder, RunsInTextO
 ghost use Rattle.v_run.specs.Turns.{HaltsIn, Shows, ShowsInTextOrder};
 
 use crate::widths::{keep, zeros};
-use lz_base::{Fault, Items, OutOfMemory, Rule, Stop, Word};
+use lz_base::{Items, OutOfMemory, Rule, Stop, Word};
 use std::alloc::Global;
 use t_choices::{Choices, Schedules};
 use t_trace::{Stimulus, Trace};
@@ -101,10 +101,7 @@ fn cycle_by(
     let entries = schedules.entries(number);
     match machine.cycle_by(input, choice, entries, out.as_mut_slice()) {
         Ok(()) => Ok(line(out)),
-        Err(incomplete) => Err(Stop::Fault(Fault {
-            rule: Rule::S1,
-            at: schedules.place(number, incomplete.index),
-        })),
+        Err(incomplete) => Err(Stop::broken(Rule::S1, schedules.place(number, incomplete.index))),
     }
 }
 

@@ -1,7 +1,6 @@
 ghost use Rattle.std.specs.Prelude.{◌≡◌, None, Some, IfOk};
 ghost use Rattle.lz_base.specs.Answers.{IfFault};
 ghost use Rattle.v_meaning.specs.Broken.{places_of, first_fault};
-ghost use Rattle.lz_base.specs.declared.fault.Stop.TheVariants as stop;
 ghost use Rattle.v_scope.specs.Scope.{scope_rules};
 
 use crate::declarations::occurrences;
@@ -22,20 +21,13 @@ pub fn scope(alloc: Global, module: &Module) -> Result<(), Stop>
     let found = occurrences(alloc, module)?;
     let all = found.as_slice();
     if let Some(at) = first_twice(alloc, all)? {
-        return Err(broken(Rule::E4, at));
+        return Err(Stop::broken(Rule::E4, at));
     }
     if let Some(at) = first_early(alloc, all)? {
-        return Err(broken(Rule::E5, at));
+        return Err(Stop::broken(Rule::E5, at));
     }
     match first_wrong_number(all) {
-        Some(at) => Err(broken(Rule::E6, at)),
+        Some(at) => Err(Stop::broken(Rule::E6, at)),
         None => Ok(()),
     }
-}
-
-// A rule is broken at a place.
-fn broken(rule: Rule, at: u64) -> Stop
-    ensures { result ≡ stop.Fault (record { rule = rule; at = at }) }
-{
-    Stop::Fault(Fault { rule, at })
 }

@@ -1,6 +1,5 @@
 ghost use Rattle.std.specs.Prelude.{◌≡◌, None, Some, IfOk};
 ghost use Rattle.lz_base.specs.Answers.{IfFault};
-ghost use Rattle.lz_base.specs.declared.fault.Stop.TheVariants as stop;
 ghost use Rattle.v_meaning.specs.Broken.{places_of, first_fault};
 ghost use Rattle.v_meaning.specs.Declarations.{names_of};
 ghost use Rattle.v_scope.specs.Occurrences.{mark_of, marks_in};
@@ -53,17 +52,10 @@ fn first_broken(
 {
     for rule in rules {
         if let Some(at) = first_of(alloc, names, *rule, all)? {
-            return Err(broken(*rule, at));
+            return Err(Stop::broken(*rule, at));
         }
     }
     Ok(())
-}
-
-// A rule is broken at a place.
-fn broken(rule: Rule, at: u64) -> Stop
-    ensures { result ≡ stop.Fault (record { rule = rule; at = at }) }
-{
-    Stop::Fault(Fault { rule, at })
 }
 
 // The least place where a rule is broken.

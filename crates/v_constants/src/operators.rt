@@ -47,15 +47,15 @@ pub fn leaf(width: u32, signed: bool, value: u128) -> Open
     }
 }
 
-// The greater of two widths.
-fn joint_width(x: u32, y: u32) -> u32
+/// The greater of two widths.
+pub fn joint_width(x: u32, y: u32) -> u32
     ensures { result ≡ max x y }
 {
     x.max(y)
 }
 
-// Signed where both are.
-fn joint_sign(x: bool, y: bool) -> bool
+/// Signed where both are.
+pub fn joint_sign(x: bool, y: bool) -> bool
     ensures { result ≡ (x && y) }
 {
     x && y

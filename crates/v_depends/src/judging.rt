@@ -13,21 +13,9 @@ use crate::graph::{Graph, graph_of};
 use crate::marking::Marks;
 use lz_base::OutOfMemory;
 use std::alloc::Global;
+use v_scope::note;
 use v_syntax::{AssignKind, Ident};
 use v_uses::{AssignUses, ProcessUses, Uses, Write};
-
-// The least place where a rule is broken, from the least one before and a place where it may be broken too.
-fn note(first: Option<u64>, broken: bool, at: u64) -> Option<u64>
-    ensures { result ≡ least_from first (place_if broken at) }
-{
-    if !broken {
-        return first;
-    }
-    match first {
-        None => Some(at),
-        Some(other) => Some(other.min(at)),
-    }
-}
 
 // ---- P7
 

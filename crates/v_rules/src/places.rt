@@ -8,20 +8,8 @@ ghost use Rattle.v_rules.specs.Groups.{idents_in, Tests};
 
 use lz_base::{OutOfMemory, is_met, meet};
 use std::collections::BTreeSet;
+use v_scope::note;
 use v_syntax::Ident;
-
-// The least place where a rule is broken, from the least one before and a place where it may be broken too.
-pub(crate) fn note(first: Option<u64>, broken: bool, at: u64) -> Option<u64>
-    ensures { result ≡ least_from first (place_if broken at) }
-{
-    if !broken {
-        return first;
-    }
-    match first {
-        None => Some(at),
-        Some(other) => Some(other.min(at)),
-    }
-}
 
 // The least place of a name that passes a test, or the least one before.
 pub(crate) fn first_among<F: Fn(&Ident) -> bool>(

@@ -10,12 +10,13 @@ ghost use Rattle.v_uses.specs.Gathered.{uses_in};
 ghost use Rattle.v_rules.specs.Groups.{idents_in};
 
 use crate::idents::{assign_targets, targets, writes};
-use crate::places::{first_among, meet_each, note};
+use crate::places::{first_among, meet_each};
 use lz_base::{Name, OutOfMemory, is_met, meet, no_names};
 use std::alloc::Global;
 use std::collections::BTreeSet;
 use v_meaning::{Entry, Kind};
 use v_names::Names;
+use v_scope::note;
 use v_syntax::Ident;
 use v_uses::Uses;
 

@@ -10,10 +10,11 @@ ghost use Rattle.v_uses.specs.Gathered.{uses_in, process_in, written_in};
 ghost use Rattle.v_rules.specs.Groups.{FirstKinds, idents_in, written_by, blocking_by, again_at, is_elsewhere, elsewhere_at, shared_from};
 
 use crate::idents::{blocking_targets, targets, writes};
-use crate::places::{first_met, meet_each, note};
+use crate::places::{first_met, meet_each};
 use lz_base::{Name, OutOfMemory, is_met, meet, no_names};
 use std::alloc::Global;
 use std::collections::BTreeSet;
+use v_scope::note;
 use v_syntax::{AssignKind, Ident};
 use v_uses::{ProcessUses, Uses, Write};
 

@@ -4,7 +4,8 @@
 //! number, each concatenation. The rules are passes over that list. It stands on `v_syntax` for the module, on `v_numbers`
 //! for numbers, and on `v_meaning` for the definitions of the rules. Promised are: `occurrences` lists exactly the marks of
 //! the module, whatever its declared names are taken to be, so that rules which need their widths and values can use the
-//! same list; and `scope` answers the first of E4, E5 and E6 that is broken, at its least place, or Ok where none is.
+//! same list; `scope` answers the first of E4, E5 and E6 that is broken, at its least place, or Ok where none is; and `note` keeps the
+//! least of places.
 #![tactic(auto)]
 
 mod declarations;
@@ -17,4 +18,5 @@ mod stmts;
 
 pub use declarations::occurrences;
 pub use occurrence::Occurrence;
+pub use rules::note;
 pub use scoping::scope;

@@ -15,8 +15,8 @@ use std::collections::BTreeSet;
 use v_numbers::is_wrong;
 use v_syntax::Ident;
 
-// The least place where a rule is broken, from the least one before and a place where it may be broken too.
-fn note(first: Option<u64>, broken: bool, at: u64) -> Option<u64>
+/// The least place where a rule is broken, from the least one before and a place where it may be broken too.
+pub fn note(first: Option<u64>, broken: bool, at: u64) -> Option<u64>
     ensures { result ≡ least_from first (place_if broken at) }
 {
     if !broken {

@@ -9,7 +9,7 @@ ghost use Rattle.v_core.specs.Sited.{is_sited, is_sited_body};
 
 use lz_base::{Boxed, OutOfMemory};
 use std::alloc::Global;
-use v_constants::{Class, class_of, is_signed, is_through};
+use v_constants::{Class, class_of, is_signed, is_through, joint_sign, joint_width};
 use v_core::{Body, Link, Open, Typed, body_linked, fix, fix_before, linked};
 use v_syntax::{BinaryOperator, Cast, UnaryOperator};
 
@@ -57,20 +57,6 @@ fn shared(alloc: Global, operator: BinaryOperator, x: Open, y: Open) -> Result<O
         signed,
         body,
     })
-}
-
-// The greater of two widths.
-fn joint_width(x: u32, y: u32) -> u32
-    ensures { result ≡ max x y }
-{
-    x.max(y)
-}
-
-// Signed where both are.
-fn joint_sign(x: bool, y: bool) -> bool
-    ensures { result ≡ (x && y) }
-{
-    x && y
 }
 
 fn compared(alloc: Global, operator: BinaryOperator, x: Open, y: Open) -> Result<Open, OutOfMemory>

@@ -21,3 +21,4 @@ mod operators;
 pub use classes::{Class, class_of, is_signed, is_through};
 pub use finding::{constant, proper_value};
 pub use known::Constant;
+pub use operators::{joint_sign, joint_width};

@@ -18,7 +18,7 @@ use v_core::{Open, TypedTarget};
 use v_meaning::Kind;
 use v_names::{Names, Sites};
 use v_syntax::{Expr, Ident, Target};
-use v_typing::{bound, offset, opened, own, span};
+use v_typing::{bound, offset, opened, own, span, wider};
 
 /// A typed target, and how many bits it has.
 #[derive(Drop)]
@@ -129,14 +129,6 @@ pub fn measured(
             Ok(t)
         }
     }
-}
-
-// A width with more bits.
-fn wider(width: u32, more: u32) -> u32
-    requires { width + more ≤ 128 }
-    ensures { result ≡ width + more }
-{
-    width + more
 }
 
 // Parts side by side, of 1 to 128 bits together.

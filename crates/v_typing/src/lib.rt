@@ -15,5 +15,5 @@ mod operators;
 
 pub use bounds::bound;
 pub use leaves::{offset, span};
-pub use opening::opened;
+pub use opening::{opened, wider};
 pub use operators::own;

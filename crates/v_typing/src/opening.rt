@@ -96,8 +96,8 @@ fn chained(
     Ok(all)
 }
 
-// A width with more bits.
-fn wider(width: u32, more: u32) -> u32
+/// A width with more bits.
+pub fn wider(width: u32, more: u32) -> u32
     requires { width + more ≤ 128 }
     ensures { result ≡ width + more }
 {

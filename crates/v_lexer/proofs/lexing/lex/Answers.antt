@@ -19,10 +19,10 @@ loop-left-preserved c =
     }
 
 pub returns-in_default-2-clause-none : goal.returns-in_default-2-clause-none
-returns-in_default-2-clause-none c = λ ts lexes.
+returns-in_default-2-clause-none c = rw c.broken.ensures (λ ts lexes.
     let no_token = rw c.in_default-2.is at c.in_ok-lexeme.ensures.none in
     let some : c.loop-left.left.now ≢ [] = search rules in
-    not_both _ ts (length c.args.bytes.now - length c.loop-left.left.now) lexes (scanned_breaks _ _ _ _ c.loop-left.invariant.scanned some refl c.in_default.ensures.none no_token)
+    not_both _ ts (length c.args.bytes.now - length c.loop-left.left.now) lexes (scanned_breaks _ _ _ _ c.loop-left.invariant.scanned some refl c.in_default.ensures.none no_token))
 
 pub new-requires-clause-tokens : goal.new-requires-clause-tokens
 new-requires-clause-tokens c = lexes_tokens _ _ (scanned_all _ _ _ c.loop-left.invariant.scanned (nil_from_length _ (grind arith)))

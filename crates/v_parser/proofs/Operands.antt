@@ -68,7 +68,7 @@ reads_name {expr = expr} p =
 
 -- ---- groups, concatenations, casts
 
-reads_group : {expr : Rule Expr} {f : Reader Expr} → Reads expr expr_goes 1 f → Reads (IsGroup expr) none 1 (group_at f)
+pub reads_group : {expr : Rule Expr} {f : Reader Expr} → Reads expr expr_goes 1 f → Reads (IsGroup expr) none 1 (group_at f)
 unfolding group_at
 reads_group p =
     reads_then (reads_mark none m.OpenParen) λ _.

@@ -19,6 +19,7 @@ use Rattle.v_parser.proofs.Exact.{Reads, Begins, reads_bind, reads_then, reads_y
 use Rattle.v_parser.proofs.Single.{reads_mark, reads_word}
 use Rattle.v_parser.proofs.Many.{Repeats, reads_after, reads_many, behind_one, reads_listed, list_goes}
 use Rattle.v_parser.proofs.Primaries.{begins_mark, expr_goes, expr_kinds}
+use Rattle.v_parser.proofs.Operands.{reads_group}
 use Rattle.v_parser.proofs.TargetRules.{reads_whole, begins_whole, begins_word, reads_target, begins_target, target_goes}
 
 -- ---- assignments, null statements, conditions
@@ -50,11 +51,7 @@ unfolding null_at
 reads_null = reads_then (reads_mark none m.Semicolon) λ _. reads_yields none s.Null
 
 pub reads_condition : Reads IsCondition none 1 condition_at
-unfolding condition_at
-reads_condition =
-    reads_then (reads_mark none m.OpenParen) λ _.
-    reads_bind reads_whole (λ x. reads_then (reads_mark none m.CloseParen) λ _. reads_yields none x)
-    (opens expr_goes (1 ∷ []) refl (λ x. begins_bind (begins_mark m.CloseParen)))
+reads_condition = reads_group reads_whole
 
 -- ---- statements that hold none
 

@@ -23,6 +23,8 @@ use Rattle.v_syntax.specs.declared.module.Module.{Module}
 use Rattle.v_syntax.specs.Grammar.{inner_levels}
 use Rattle.v_parser.specs.Reading.{Reader, ◌>>=◌, ◌>>◌, gives, choose, word_code, repeated, among, next_in, listed_at, mark_at, word_at, ident_at}
 use Rattle.v_parser.specs.Exprs.{identifiers, only, placed_at, range_at}
+use Rattle.v_parser.specs.declared.tokens.GroupList.{GroupList}
+use Rattle.v_parser.specs.declared.tokens.GroupList.TheVariants as list
 use Rattle.v_parser.specs.Stmts.{whole_at, stmt_at}
 
 abbrev pub these : Keyword → List ℕ
@@ -105,6 +107,11 @@ parameter_words = 47 ∷ []
 
 abbrev pub port_words : List ℕ
 port_words = 42 ∷ 43 ∷ []
+
+-- the words that begin a group of a list
+abbrev pub words_of : GroupList → List ℕ
+words_of list.Parameters = parameter_words
+words_of list.Ports = port_words
 
 unfoldable pub parameter_group_at : Reader ParameterGroup
 parameter_group_at = do

@@ -18,7 +18,7 @@ use Rattle.v_syntax.specs.declared.stmt.Stmt.{Stmt}
 use Rattle.v_syntax.specs.declared.stmt.Stmt.TheVariants as s
 use Rattle.v_syntax.specs.Grammar.{inner_levels}
 use Rattle.v_parser.specs.Reading.{Reader, ◌>>=◌, ◌>>◌, gives, choose, repeated, listed_at, mark_at, word_at, before_at, before_word_at, ident_at}
-use Rattle.v_parser.specs.Exprs.{only, opened_at, bound_at, expr_at}
+use Rattle.v_parser.specs.Exprs.{only, opened_at, bound_at, expr_at, group_at}
 
 abbrev pub whole_at : Reader Expr
 whole_at = expr_at inner_levels
@@ -102,12 +102,8 @@ block_at stmt = do
   word_at k.End
   gives (s.Block body)
 
-unfoldable pub condition_at : Reader Expr
-condition_at = do
-  mark_at m.OpenParen
-  x ← whole_at
-  mark_at m.CloseParen
-  gives x
+abbrev pub condition_at : Reader Expr
+condition_at = group_at whole_at
 
 unfoldable pub case_kind_at : Reader CaseKind
 case_kind_at = choose plain_cases (word_at k.Case >> gives c.Case) (word_at k.Casez >> gives c.Casez)

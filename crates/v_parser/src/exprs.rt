@@ -247,7 +247,7 @@ fn name<'t>(alloc: Global, tokens: &'t [Token], depth: u32) -> Read<'t, Expr>
 
 #[cycle(parser)]
 #[tactic(auto, unfolding(crate::specs::Exprs::group_at))]
-fn group<'t>(alloc: Global, tokens: &'t [Token], depth: u32) -> Read<'t, Expr>
+pub(crate) fn group<'t>(alloc: Global, tokens: &'t [Token], depth: u32) -> Read<'t, Expr>
     ensures gives { Gives (λ x. (x.0, x.1.now)) result (group_at (expr_at depth) tokens.now) }
     ensures shorter { IfOk result (λ x. length x.1.now < length tokens.now) }
 {

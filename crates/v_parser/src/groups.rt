@@ -1,52 +1,32 @@
 ghost use Rattle.std.specs.Prelude.{◌≡◌, ◌≤◌, ◌<◌, [], ◌∷◌, Ok, Err, IfOk, length, true};
 ghost use Rattle.v_parser.specs.Reading.{repeated, among};
 ghost use Rattle.v_parser.specs.Exprs.{identifiers};
-ghost use Rattle.v_parser.specs.Modules.{separator_at, parted_at, names_at, parameter_words, port_words, setting_at, port_at, input_at, output_at, port_kind_at, parameter_group_at, port_group_at};
+ghost use Rattle.v_parser.specs.Modules.{separator_at, words_of, parted_at, names_at, parameter_words, port_words, setting_at, port_at, input_at, output_at, port_kind_at, parameter_group_at, port_group_at};
 ghost use Rattle.v_parser.specs.Gives.{Gives};
 
 use crate::declarations::{bare, declared, flag, range_option, setting};
 use crate::miss::{Miss, Read};
 use crate::tokens::{
-    beside, mark, next_goes_on_parameters, next_goes_on_ports, next_is, next_is_name, next_word,
-    with_next, word,
+    GroupList, beside, mark, next_goes_on, next_is, next_is_name, next_word, with_next, word,
 };
 use lz_base::Items;
 use std::alloc::Global;
 use v_syntax::{Declared, Keyword, Mark, ParameterGroup, PortGroup, PortKind, Setting, Token};
 
-// A comma, behind which a parameter or a group of parameters stands; or nothing, where neither does.
+// A comma, behind which a name or a group of the list stands; or nothing, where neither does.
 #[tactic(auto, unfolding(crate::specs::Modules::separator_at))]
-fn parameter_separator(tokens: &[Token]) -> Result<&[Token], Miss<'_>>
-    ensures gives { Gives (λ x. (true, x.now)) result (separator_at parameter_words tokens.now) }
+fn separator(tokens: &[Token], list: GroupList) -> Result<&[Token], Miss<'_>>
+    ensures gives { Gives (λ x. (true, x.now)) result (separator_at (words_of list) tokens.now) }
     ensures shorter { IfOk result (λ x. length x.now ≤ length tokens.now) }
 {
     if next_is(tokens, Mark::Comma) {
         let (_, rest) = mark(tokens, Mark::Comma)?;
-        if next_goes_on_parameters(rest) {
+        if next_goes_on(rest, list) {
             Ok(rest)
         } else {
             Err(Miss::At(rest))
         }
-    } else if next_goes_on_parameters(tokens) {
-        Err(Miss::At(tokens))
-    } else {
-        Ok(tokens)
-    }
-}
-
-#[tactic(auto, unfolding(crate::specs::Modules::separator_at))]
-fn port_separator(tokens: &[Token]) -> Result<&[Token], Miss<'_>>
-    ensures gives { Gives (λ x. (true, x.now)) result (separator_at port_words tokens.now) }
-    ensures shorter { IfOk result (λ x. length x.now ≤ length tokens.now) }
-{
-    if next_is(tokens, Mark::Comma) {
-        let (_, rest) = mark(tokens, Mark::Comma)?;
-        if next_goes_on_ports(rest) {
-            Ok(rest)
-        } else {
-            Err(Miss::At(rest))
-        }
-    } else if next_goes_on_ports(tokens) {
+    } else if next_goes_on(tokens, list) {
         Err(Miss::At(tokens))
     } else {
         Ok(tokens)
@@ -59,7 +39,7 @@ fn parted_setting<'t>(alloc: Global, tokens: &'t [Token]) -> Read<'t, Setting>
     ensures shorter { IfOk result (λ x. length x.1.now < length tokens.now) }
 {
     let (setting, rest) = setting(alloc, tokens)?;
-    beside(setting, parameter_separator(rest))
+    beside(setting, separator(rest, GroupList::Parameters))
 }
 
 // The parameters of a group behind the first one.
@@ -161,7 +141,7 @@ fn parted_port<'t>(alloc: Global, tokens: &'t [Token], kind: PortKind) -> Read<'
     ensures shorter { IfOk result (λ x. length x.1.now < length tokens.now) }
 {
     let (port, rest) = port(alloc, tokens, kind)?;
-    beside(port, port_separator(rest))
+    beside(port, separator(rest, GroupList::Ports))
 }
 
 // The ports of a group behind the first one.

@@ -1,9 +1,9 @@
 ghost use Rattle.std.specs.Prelude.{◌≡◌, ◌≤◌, ◌<◌, [], ◌∷◌, Ok, Err, IfOk, length};
 ghost use Rattle.v_parser.specs.Reading.{more_at, repeated};
-ghost use Rattle.v_parser.specs.Stmts.{whole_at, assign_kind_at, assigned_at, assign_at, null_at, empty_block_at, block_at, condition_at, case_kind_at, items_at, default_at, label_at, arm_at, arms_of_at, case_body_at, case_at, after_else_at, else_at, branches_at, if_at, flat_at, simple_at, stmt_at, not_end, not_endcase};
+ghost use Rattle.v_parser.specs.Stmts.{whole_at, assign_kind_at, assigned_at, assign_at, null_at, empty_block_at, block_at, case_kind_at, items_at, default_at, label_at, arm_at, arms_of_at, case_body_at, case_at, after_else_at, else_at, branches_at, if_at, flat_at, simple_at, stmt_at, not_end, not_endcase};
 ghost use Rattle.v_parser.specs.Gives.{Gives};
 
-use crate::exprs::{expr, more_exprs};
+use crate::exprs::{expr, group, more_exprs};
 use crate::miss::{Miss, Read};
 use crate::targets::target;
 use crate::tokens::{
@@ -78,16 +78,6 @@ fn empty_block<'t>(alloc: Global, tokens: &'t [Token]) -> Read<'t, Stmt>
     let (_, rest) = word(tokens, Keyword::Begin)?;
     let (_, rest) = word(rest, Keyword::End)?;
     Ok((Stmt::Block(Items::new(alloc)), rest))
-}
-
-#[tactic(auto, unfolding(crate::specs::Stmts::condition_at))]
-fn condition<'t>(alloc: Global, tokens: &'t [Token]) -> Read<'t, Expr>
-    ensures gives { Gives (λ x. (x.0, x.1.now)) result (condition_at tokens.now) }
-    ensures shorter { IfOk result (λ x. length x.1.now < length tokens.now) }
-{
-    let (_, rest) = mark(tokens, Mark::OpenParen)?;
-    let (inner, rest) = expr(alloc, rest, INNER_LEVELS)?;
-    before(inner, rest, Mark::CloseParen)
 }
 
 #[tactic(auto, unfolding(crate::specs::Stmts::case_kind_at))]
@@ -232,7 +222,7 @@ fn case<'t>(alloc: Global, tokens: &'t [Token], depth: u32) -> Read<'t, Stmt>
     ensures shorter { IfOk result (λ x. length x.1.now < length tokens.now) }
 {
     let (kind, rest) = case_kind(tokens)?;
-    let (subject, rest) = condition(alloc, rest)?;
+    let (subject, rest) = group(alloc, rest, INNER_LEVELS)?;
     let (subject, (arms, rest)) = beside(subject, case_body(alloc, rest, depth))?;
     Ok((
         Stmt::Case {
@@ -295,7 +285,7 @@ fn if_stmt<'t>(alloc: Global, tokens: &'t [Token], depth: u32) -> Read<'t, Stmt>
     ensures shorter { IfOk result (λ x. length x.1.now < length tokens.now) }
 {
     let (_, rest) = word(tokens, Keyword::If)?;
-    let (condition, rest) = condition(alloc, rest)?;
+    let (condition, rest) = group(alloc, rest, INNER_LEVELS)?;
     branches(alloc, rest, depth, condition)
 }
 

@@ -2,7 +2,7 @@ ghost use Rattle.std.specs.Prelude.{◌≡◌, ◌==◌, not, ◌<◌, ◌≤◌
 ghost use Rattle.v_parser.specs.Reading.{mark_code, word_code, kind, next, next_in, kind_at, mark_at, word_at, before_at, before_word_at, here_at, ident_at};
 ghost use Rattle.v_parser.specs.Exprs.{identifiers, decimals, baseds, casts, numbers, only, decimal_at, based_at, cast_at, prefix_at, between_at, has_rank};
 ghost use Rattle.v_parser.specs.Stmts.{cases};
-ghost use Rattle.v_parser.specs.Modules.{parameter_words, port_words, goes_on};
+ghost use Rattle.v_parser.specs.Modules.{port_words, words_of, goes_on};
 ghost use Rattle.v_parser.specs.Gives.{Gives, Grown, beside_of};
 
 use crate::miss::{Miss, Read};
@@ -59,18 +59,22 @@ pub(crate) fn next_is_port_word(tokens: &[Token]) -> bool
     next_word(tokens, Keyword::Input) || next_word(tokens, Keyword::Output)
 }
 
-// Whether a name or a group of parameters stands there.
-pub(crate) fn next_goes_on_parameters(tokens: &[Token]) -> bool
-    ensures { result ≡ goes_on parameter_words tokens.now }
-{
-    next_is_name(tokens) || next_word(tokens, Keyword::Parameter)
+// A list of groups: of parameters, or of ports.
+#[derive(Clone, Copy)]
+pub(crate) enum GroupList {
+    Parameters,
+    Ports,
 }
 
-// Whether a name or a group of ports stands there.
-pub(crate) fn next_goes_on_ports(tokens: &[Token]) -> bool
-    ensures { result ≡ goes_on port_words tokens.now }
+// Whether a name or a group of the list stands there.
+pub(crate) fn next_goes_on(tokens: &[Token], list: GroupList) -> bool
+    ensures { result ≡ goes_on (words_of list) tokens.now }
 {
-    next_is_name(tokens) || next_is_port_word(tokens)
+    next_is_name(tokens)
+        || match list {
+            GroupList::Parameters => next_word(tokens, Keyword::Parameter),
+            GroupList::Ports => next_is_port_word(tokens),
+        }
 }
 
 pub(crate) fn next_is_name(tokens: &[Token]) -> bool
